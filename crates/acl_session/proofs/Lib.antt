@@ -1,0 +1,4 @@
+pub mod CommandLemmas
+pub mod DigitLemmas
+pub mod NameLemmas
+pub mod ScanLemmas
