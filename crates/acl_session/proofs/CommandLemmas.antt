@@ -2,7 +2,10 @@
 use Rattle.std.specs.Prelude.{◌≡◌, ℕ, suc, ◌+◌, ◌<◌, ◌≤◌, List, [], ◌∷◌, ◌++◌, length, map, Bool, true, false, ◌&&◌, ◌||◌, ◌==◌, not, ℤ, ◌≢◌, take, drop, Some, None, Option, codes, if◌then◌else◌, refl}
 use Rattle.std.proofs.Common.{arith, get_or, sym, ap, ◌∙◌}
 use Rattle.std.specs.Option.{option_map}
-use Rattle.std.specs.List.{list_any}
+use Rattle.std.specs.List.{list_any, list_all}
+use Rattle.model_symbols.specs.Opening.{words, common_lisp_text}
+use Rattle.acl_session.specs.Own.{is_imported}
+use Rattle.acl_session.specs.OwnFields.{fields_own}
 use Rattle.std.specs.Str.{bytes_eq}
 use Rattle.std.proofs.lemmas.Bool.Decides.{nat_tests}
 use Rattle.std.proofs.lemmas.List.{drop_more, take_more, drop_all, map_push}
@@ -12,9 +15,9 @@ use Rattle.model_symbols.specs.Opening.{nil_name, quote_name}
 use Rattle.model_output.specs.Text.{Form, list_form, nil_form, quote_form}
 use Rattle.model_output.specs.Commands as commands
 use Rattle.acl_session.specs.Views.{atom_form, atom_forms, item_form, symbol_named, keyword_named}
-use Rattle.acl_session.proofs.NameLemmas.{named_is_no_keyword, quote_named, nil_named, integer_named, defstobj_named, same_word, name_of_named}
+use Rattle.acl_session.proofs.NameLemmas.{named_is_no_keyword, quote_named, nil_named, integer_named, defstobj_named, same_word, name_of_named, bytes_same}
 use Rattle.acl_session.specs.CommandViews.{field_names, field_views}
-use Rattle.acl_session.specs.declared.commands.NewField.{NewField}
+use Rattle.acl_session.specs.declared.definition.NewField.{NewField}
 use Rattle.acl_session.specs.declared.atoms.Atom.{Atom}
 use Rattle.acl_session.specs.declared.atoms.Atom.TheVariants as atom
 
@@ -171,7 +174,7 @@ names_go t a e = rw e refl
 
 -- ---- whole commands
 
-names_of : (fs : List NewField) → map (λ (f : commands.NewField). f.name) (field_views fs) ≡ field_names fs
+pub names_of : (fs : List NewField) → map (λ (f : commands.NewField). f.name) (field_views fs) ≡ field_names fs
 names_of [] = refl
 names_of (f ∷ fs) = ap (λ (ss : List QualifiedName). symbol_named f.name.now ∷ ss) (names_of fs)
 
@@ -190,7 +193,7 @@ pub definition_is : (name : List ℕ) (fs : List NewField)
 definition_is name fs =
     ap (λ t. if t then commands.Define (symbol_named name) (field_views fs) else commands.Other)
     (ap (λ e. not e && commands.are_new [] (symbol_named name ∷ map (λ (f : commands.NewField). f.name) (field_views fs))) (empty_views fs)
-        ∙ ap (λ (ss : List QualifiedName). not (length fs == 0) && commands.are_new [] (symbol_named name ∷ ss)) (names_of fs))
+    ∙ ap (λ (ss : List QualifiedName). not (length fs == 0) && commands.are_new [] (symbol_named name ∷ ss)) (names_of fs))
 
 pub headed_is : (f : List ℕ) (rest : List Form)
     → commands.headed (Some (symbol_named f)) rest ≡ (if bytes_eq f (codes "DEFSTOBJ") then commands.definition rest else commands.call (symbol_named f) rest)
@@ -217,3 +220,48 @@ symbol_command s = nothing_spelled (same_name s nil_name)
 pub integer_command : (n : ℤ) → commands.command_of (Integer n) ≡ commands.Other
 unfolding commands.command_of
 integer_command n = refl
+
+one_more : (n w : List ℕ) (i a : Bool) (q : List ℕ → Bool) → (i ≡ true → a ≡ true → q n ≡ true) → (t u : Bool) → bytes_eq n w ≡ t → q w ≡ u → (t || i) ≡ true → (u && a) ≡ true → q n ≡ true
+one_more n w i a q again true true e f h b = ap q (bytes_same n w e) ∙ f
+one_more n w i a q again true false e f h b = cc
+one_more n w i a q again false true e f h b = again h b
+one_more n w i a q again false false e f h b = cc
+
+and_left : (a b : Bool) → (a && b) ≡ true → a ≡ true
+and_left true b e = refl
+and_left false b e = cc
+
+pub and_right : (a b : Bool) → (a && b) ≡ true → b ≡ true
+and_right true b e = e
+and_right false b e = cc
+
+-- a name that is among these passes a test that they all pass
+any_all : (n : List ℕ) (ws : List (List ℕ)) (q : List ℕ → Bool) → list_any (bytes_eq n) ws ≡ true → list_all q ws ≡ true → q n ≡ true
+any_all n [] q h a = cc
+any_all n (w ∷ ws) q h a = one_more n w (list_any (bytes_eq n) ws) (list_all q ws) q (any_all n ws q) (bytes_eq n w) (q w) refl refl h a
+
+not_new : list_all (λ (w : List ℕ). not (commands.is_new_name w)) (words common_lisp_text) ≡ true
+unfolding common_lisp_text
+not_new = refl
+
+not_both : (a b : Bool) → a ≡ true → (b ≡ true → not a ≡ true) → b ≡ false
+not_both a true e h = let k = h refl in cc
+not_both a false e h = refl
+
+new_not_imported : (n : List ℕ) → commands.is_new_name n ≡ true → is_imported n ≡ false
+unfolding is_imported
+new_not_imported n e = not_both (commands.is_new_name n) (list_any (bytes_eq n) (words common_lisp_text)) e (λ h. any_all n (words common_lisp_text) (λ (w : List ℕ). not (commands.is_new_name w)) h not_new)
+
+fresh_new : (others : List QualifiedName) (n : List ℕ) → commands.is_fresh others (symbol_named n) ≡ true → commands.is_new_name n ≡ true
+fresh_new others n e = sym (ap commands.is_new_name (name_of_named n)) ∙ and_left (commands.is_new_name (symbol_named n).name) (not (is_known others (symbol_named n))) e
+
+own_from : (others : List QualifiedName) (fs : List NewField) → commands.are_new others (field_names fs) ≡ true → fields_own fs ≡ true
+own_from others [] e = refl
+own_from others (f ∷ fs) e =
+    let s : QualifiedName = symbol_named f.name.now in
+    let p = and_left (commands.is_fresh others s) (commands.are_new (others ++ s ∷ []) (field_names fs)) e in
+    let q = and_right (commands.is_fresh others s) (commands.are_new (others ++ s ∷ []) (field_names fs)) e in
+    rw (new_not_imported f.name.now (fresh_new others f.name.now p), own_from (others ++ s ∷ []) fs q) refl
+
+pub new_fields_own : (object : List ℕ) (fs : List NewField) → commands.are_new [] (symbol_named object ∷ field_names fs) ≡ true → fields_own fs ≡ true
+new_fields_own object fs e = own_from (symbol_named object ∷ []) fs (and_right (commands.is_fresh [] (symbol_named object)) (commands.are_new (symbol_named object ∷ []) (field_names fs)) e)

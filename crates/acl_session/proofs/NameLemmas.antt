@@ -7,11 +7,8 @@ use Rattle.std.proofs.lemmas.Slice.Eq.{bytes_eq-Decides}
 use Rattle.model_symbols.specs.Symbols.{QualifiedName, same_name, symbol_in, import_of}
 use Rattle.model_symbols.specs.Opening.{words, symbols_of, common_lisp, acl2, keyword, common_lisp_text, common_lisp_symbols, acl2_package, nil_name, quote_name}
 use Rattle.model_output.specs.Commands.{is_keyword, integer_name, defstobj_name}
+use Rattle.acl_session.specs.Own.{is_imported}
 use Rattle.acl_session.specs.Views.{symbol_named, keyword_named}
-
--- a word that the session's package imports
-unfoldable pub is_imported : List ℕ → Bool
-is_imported name = list_any (bytes_eq name) (words common_lisp_text)
 
 unfoldable pub home_of : List ℕ → List ℕ
 home_of name = if is_imported name then common_lisp else acl2

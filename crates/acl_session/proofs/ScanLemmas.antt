@@ -66,7 +66,7 @@ begun_is bytes i start l e = go (get_or bytes i 0 == 39) refl e where
       let n : i + 1 - start ≡ 0 + 1 = omega arith in
       let z : i + 0 ≡ i = omega arith in
       sym (ap (λ k. take k (drop start bytes)) n ∙ (ap (λ k. take (0 + 1) (drop k bytes)) q
-          ∙ (take_more (drop i bytes) 0 0 low ∙ ap (λ b. b ∷ []) (get_or-drop i bytes 0 0 ∙ ap (λ k. get_or bytes k 0) z))))
+      ∙ (take_more (drop i bytes) 0 0 low ∙ ap (λ b. b ∷ []) (get_or-drop i bytes 0 0 ∙ ap (λ k. get_or bytes k 0) z))))
   go false h q =
       let n : i + 1 - start ≡ 0 = omega arith in
       sym (ap (λ k. take k (drop start bytes)) n)

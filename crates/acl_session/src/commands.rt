@@ -10,21 +10,15 @@ ghost use Rattle.acl_session.specs.Views.{atom_form, atom_forms, item_form, item
 ghost use Rattle.acl_session.specs.CommandViews.{field_view, field_views, field_names, field_list, command_view};
 
 use crate::atoms::Atom;
+use crate::definition::{Definition, NewField};
 use crate::forms::{Form, Item};
 use std::alloc::{AllocError, Global};
-
-/// A field of an object that is to be defined, and its first value.
-#[derive(Clone, Copy)]
-pub struct NewField<'a> {
-    pub name: &'a [u8],
-    pub initial: i64,
-}
 
 /// What a form asks for. Names are words, in upper case.
 #[derive(Drop)]
 pub enum Command<'a> {
-    /// An object of this name, with these fields.
-    Define(&'a [u8], Vec<NewField<'a>>),
+    /// A new object.
+    Define(Definition<'a>),
     /// A call of this function, with an integer and an object.
     Update(&'a [u8], i64, &'a [u8]),
     /// A call of this function, with a symbol and an object.
@@ -55,13 +49,7 @@ fn word_in(item: &Item) -> Option<&[u8]>
 {
     match item {
         Item::Atom(atom) => word_in_atom(atom),
-        Item::List(atoms) => {
-            if atoms.is_empty() {
-                Some(b"NIL")
-            } else {
-                None
-            }
-        }
+        Item::List(atoms) => { if atoms.is_empty() { Some(b"NIL") } else { None } }
     }
 }
 
@@ -198,7 +186,10 @@ fn are_upper_case(name: &[u8]) -> bool
 fn is_taken(name: &[u8]) -> bool
     ensures { result ≡ list_any (bytes_eq name.now) commands.taken_names }
 {
-    matches!(name, b"IF" | b"EQ" | b"OR" | b"MV" | b"ZP" | b"LD" | b"ER" | b"CW" | b"ZI")
+    matches!(
+        name,
+        b"IF" | b"EQ" | b"OR" | b"MV" | b"ZP" | b"LD" | b"ER" | b"CW" | b"ZI"
+    )
 }
 
 fn is_among(name: &[u8], fields: &[NewField]) -> bool
@@ -252,7 +243,7 @@ fn defined<'a>(name: &'a [u8], fields: Vec<NewField<'a>>) -> Command<'a>
     ensures { commands.definition_of (symbol_named name.now) (field_views fields.entry.items) ≡ command_view result }
 {
     if !fields.is_empty() & are_new(name, fields.as_slice()) {
-        Command::Define(name, fields)
+        Command::Define(Definition { name, fields })
     } else {
         Command::Other
     }

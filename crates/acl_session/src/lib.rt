@@ -3,5 +3,8 @@
 
 mod atoms;
 mod commands;
+mod definition;
 mod forms;
+mod session;
+mod stobj;
 mod tokens;
