@@ -2,6 +2,7 @@ pub mod Views
 pub mod CommandViews
 pub mod Own
 pub mod OwnFields
+pub mod Runs
 pub mod Scans
 pub mod SessionViews
 pub mod Sessions

@@ -26,8 +26,8 @@ counted t a = record { commands = t.commands + 1; calls = t.calls + a.calls; err
 abbrev pub line : List ℕ → List ℕ
 line text = text ++ 10 ∷ []
 
-abbrev pub summary_text : Totals → List ℕ
-summary_text t = codes "; " ++ (decimal t.commands ++ (codes " commands, " ++ (decimal t.calls ++ (codes " calls, " ++ (decimal t.errors ++ codes " errors")))))
+unfoldable pub summary_text : Totals → List ℕ
+summary_text t = codes "; " ++ decimal t.commands ++ codes " commands, " ++ decimal t.calls ++ codes " calls, " ++ decimal t.errors ++ codes " errors"
 
 pub record Output : Type 0 where
   pub bytes : List ℕ
@@ -44,8 +44,11 @@ abbrev pub answers : Session → Totals → List Form → Output
 answers session t [] = ended t
 answers session t (f ∷ fs) = let a = run session (command_of f) in before (line a.line) (answers a.session (counted t a) fs)
 
-abbrev pub faulty : Output
-faulty = record { bytes = line (codes "Text fault: NotYet at 0") ++ line (summary_text no_totals); status = Text }
+abbrev pub fault_text : List ℕ
+fault_text = codes "Text fault: NotYet at 0"
+
+unfoldable pub faulty : Output
+faulty = record { bytes = line fault_text ++ line (summary_text no_totals); status = Text }
 
 abbrev pub answered : Option (List Form) → Output
 answered None = faulty

@@ -5,15 +5,15 @@ use Rattle.model_symbols.specs.Opening.{common_lisp_text, acl2_text, common_lisp
 use Rattle.model_output.specs.Text.{forms_of}
 use Rattle.model_output.specs.Commands.{command_of}
 use Rattle.model_output.specs.Sessions.{run}
-use Rattle.model_output.specs.Output.{output}
+use Rattle.model_output.specs.Output.{output, summary_text, faulty}
 use Rattle.model_output_rows.specs.Rows.{AreWritten, AreRefused}
 
 pub are_written : AreWritten
-unfolding common_lisp_text acl2_text common_lisp_symbols acl2_symbols acl2_package forms_of command_of run output digits
+unfolding common_lisp_text acl2_text common_lisp_symbols acl2_symbols acl2_package forms_of command_of run output summary_text faulty digits
 are_written = record { empty = refl; three_commands = refl; guard_violation = refl; no_object = refl; a_string = refl; two_fields = refl; odd_commands = refl }
 
 pub are_refused : AreRefused
-unfolding common_lisp_text acl2_text common_lisp_symbols acl2_symbols acl2_package forms_of command_of run output digits
+unfolding common_lisp_text acl2_text common_lisp_symbols acl2_symbols acl2_package forms_of command_of run output summary_text faulty digits
 are_refused = record {
   open_list = refl;
   stray_close = refl;
