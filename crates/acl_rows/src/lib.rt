@@ -1,0 +1,5 @@
+//! Whole books, run by the top call over ends in memory.
+#![tactic(auto)]
+
+#[cfg(test)]
+mod tests;
