@@ -3,7 +3,7 @@ use Rattle.std.specs.Prelude.{ℕ, ◌+◌, ◌-◌, ◌==◌, nat_lt, nat_le, L
 use Rattle.std.specs.Str.{bytes_eq}
 use Rattle.model_objects.specs.Object.{Integer, Symbol, Text, weight, max_weight}
 use Rattle.model_symbols.specs.Symbols.{QualifiedName, Package, interned}
-use Rattle.model_text.specs.Token.{Form, Packages, is_empty, ends_token, is_graphic, is_bar, Token, Number, Name, Wrong, token_of}
+use Rattle.model_text.specs.Token.{Form, Packages, is_empty, ends_token, is_graphic, is_bar, Token, Number, Name, Wrong, token_of, with_room}
 use Rattle.model_text.specs.Token as token
 use Rattle.model_text.specs.Parts.{Lexeme, Atom, Open, Close, Dot, Quote, Backquote, Comma, CommaAt, Part, Put, Parts, Whole, Bad, in_backquote, full_dot, unless_full, put}
 use Rattle.model_text.specs.declared.TextCause.{TextCause}
@@ -128,7 +128,7 @@ token_put (Wrong c) start s = Fails c start
 abbrev pub token_ended : Packages → State → Step
 token_ended packages s =
     if is_empty s.token then Goes s
-    else token_put (token_of packages s.symbols s.token) (s.at - length s.token) s
+    else token_put (with_room s.symbols (token_of packages s.token)) (s.at - length s.token) s
 
 -- the first byte of a token does not yet show that a second form begins behind a dot: the dot may stand alone, and `#` may begin a comment
 abbrev pub is_open_question : List ℕ → ℕ → Bool

@@ -188,37 +188,40 @@ pub data Token : Type 0 where
 abbrev pub number_token : ℤ → Token
 number_token n = if fits_128 n then Number n else Wrong IntegerTooWide
 
--- a symbol, where there is room for it
-abbrev pub name_token : List QualifiedName → QualifiedName → Token
-name_token symbols s = if is_one_too_many symbols s then Wrong TooManySymbols else Name s
-
 -- the symbol of this name in the package of this number, if there is one
-abbrev pub numbered_token : Packages → List QualifiedName → Option ℕ → List ℕ → Token
-numbered_token packages symbols None name = Wrong UnknownPackage
-numbered_token packages symbols (Some n) name = name_token symbols (symbol_in (package_at packages.all n) name)
+abbrev pub numbered_token : Packages → Option ℕ → List ℕ → Token
+numbered_token packages None name = Wrong UnknownPackage
+numbered_token packages (Some n) name = Name (symbol_in (package_at packages.all n) name)
 
 -- the number of a package that a text may name
 abbrev pub nameable : Packages → List ℕ → Option ℕ
 nameable packages name = if bytes_eq name hidden then None else package_number packages.all name
 
-abbrev pub written_token : Packages → List QualifiedName → Written → Token
-written_token packages symbols (Plainly name) = numbered_token packages symbols (Some packages.current) name
-written_token packages symbols (Within home name) = numbered_token packages symbols (nameable packages home) name
-written_token packages symbols Wrongly = Wrong BadToken
+abbrev pub written_token : Packages → Written → Token
+written_token packages (Plainly name) = numbered_token packages (Some packages.current) name
+written_token packages (Within home name) = numbered_token packages (nameable packages home) name
+written_token packages Wrongly = Wrong BadToken
 
 -- a token that is no integer: the dot, a ratio, a float, dots, or a symbol
-abbrev pub other_token : Packages → List QualifiedName → List ℕ → Token
-other_token packages symbols bytes =
+abbrev pub other_token : Packages → List ℕ → Token
+other_token packages bytes =
     if bytes_eq bytes (46 ∷ []) then Dot
     else (if is_ratio bytes || (is_float bytes || are_dots bytes) then Wrong BadToken
-    else written_token packages symbols (written (letters Outside bytes)))
+    else written_token packages (written (letters Outside bytes)))
 
-abbrev pub bare_token : Packages → List QualifiedName → List ℕ → Option ℤ → Token
-bare_token packages symbols bytes None = other_token packages symbols bytes
-bare_token packages symbols bytes (Some n) = number_token n
+abbrev pub bare_token : Packages → List ℕ → Option ℤ → Token
+bare_token packages bytes None = other_token packages bytes
+bare_token packages bytes (Some n) = number_token n
 
--- what the bytes of a token are, where these symbols are known; a token with bars is a symbol, or wrong
-unfoldable pub token_of : Packages → List QualifiedName → List ℕ → Token
-token_of packages symbols bytes =
-    if list_any is_bar bytes then written_token packages symbols (written (letters Outside bytes))
-    else bare_token packages symbols (map to_ascii_uppercase bytes) (integer_of (map to_ascii_uppercase bytes))
+-- what the bytes of a token are; a token with bars is a symbol, or wrong
+unfoldable pub token_of : Packages → List ℕ → Token
+token_of packages bytes =
+    if list_any is_bar bytes then written_token packages (written (letters Outside bytes))
+    else bare_token packages (map to_ascii_uppercase bytes) (integer_of (map to_ascii_uppercase bytes))
+
+-- the same, unless it is a symbol that is not known and for which these known ones leave no room
+abbrev pub with_room : List QualifiedName → Token → Token
+with_room symbols Dot = Dot
+with_room symbols (Number n) = Number n
+with_room symbols (Name s) = if is_one_too_many symbols s then Wrong TooManySymbols else Name s
+with_room symbols (Wrong c) = Wrong c
