@@ -3,4 +3,5 @@ pub mod Backquote
 pub mod Parts
 pub mod Next
 pub mod Text
+pub mod Spelling
 pub mod Examples
