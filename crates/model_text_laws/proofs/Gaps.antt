@@ -41,13 +41,13 @@ pub record Fits (ps : List Part) (at first : ℕ) : Type 0 where
   pub input : at < most_input
   pub bytes : at < begin ps at first + most_bytes
 
-comment_room : (ps : List Part) (i : Inside) (at first : ℕ) (symbols : List QualifiedName) → is_comment i ≡ true → at < begin ps at first + most_bytes → has_room (st ps i [] at first symbols) at ≡ true
+pub comment_room : (ps : List Part) (i : Inside) (at first : ℕ) (symbols : List QualifiedName) → is_comment i ≡ true → at < begin ps at first + most_bytes → has_room (st ps i [] at first symbols) at ≡ true
 comment_room [] i at first symbols h l = rw h refl
 comment_room (p ∷ ps) i at first symbols h l =
     let f = first_comment (p ∷ ps) i at first symbols (not_free i h).0 in
     room_of (st (p ∷ ps) i [] at first symbols) at (omega (arith, f, l))
 
-free_room : (ps : List Part) (at first : ℕ) (symbols : List QualifiedName) → at < begin ps at first + most_bytes → has_room (free ps at first symbols) at ≡ true
+pub free_room : (ps : List Part) (at first : ℕ) (symbols : List QualifiedName) → at < begin ps at first + most_bytes → has_room (free ps at first symbols) at ≡ true
 free_room ps at first symbols l =
     let f = begin_is ps at first symbols in
     room_of (free ps at first symbols) at (omega (arith, f, l))
