@@ -1,3 +1,5 @@
 pub mod Going
 pub mod Gaps
 pub mod Tokens
+pub mod Templates
+pub mod Read

@@ -228,7 +228,7 @@ module _ (packages : Packages) (ended : Bool) where
   -- a whole token, which does this
   pub token_going : (bs : List ℕ) (ps : List Part) (at first : ℕ) (symbols symbols' : List QualifiedName) (p : Put) (rest : List ℕ)
       → IsToken bs → full_dot ps ≡ None → Upto (at + length bs) (begin ps at first) → Stops ended true (at + length bs) rest
-      → ((s : State) → s.parts ≡ ps → token_put (with_room symbols (token_of packages bs)) at s ≡ done p s.at s.first symbols')
+      → ((s : State) → s.parts ≡ ps → s.symbols ≡ symbols → token_put (with_room symbols (token_of packages bs)) at s ≡ done p s.at s.first symbols')
       → going packages ended (free ps at first symbols) (bs ++ rest) ≡ after (done p (at + length bs) (begin ps at first) symbols') (λ t. going packages ended t rest)
   token_going bs ps at first symbols symbols' p rest h d r w does =
       let first' = begin ps at first in
@@ -236,7 +236,7 @@ module _ (packages : Packages) (ended : Bool) where
       let z : (at + length bs) - length bs ≡ at = omega arith in
       letters_going bs ps at first symbols rest h d r
       ∙ token_stops bs ps (at + length bs) first' symbols symbols' p rest h.some w
-      (ap (λ n. token_put (with_room symbols (token_of packages bs)) n s) z ∙ does s refl)
+      (ap (λ n. token_put (with_room symbols (token_of packages bs)) n s) z ∙ does s refl refl)
 
   -- ---- strings
 
