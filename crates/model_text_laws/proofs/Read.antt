@@ -11,12 +11,12 @@ use Rattle.model_text.specs.Token as token
 use Rattle.model_text.specs.Backquote.{Template, Constant, Comma, CommaAt, Both, form_of, expansion, has_comma, Item, Plain, Made, Spliced, joined_onto, item_of, item_form, nil_form, quoted_item}
 use Rattle.model_text.specs.Parts.{Lexeme, Atom, Open, Close, Dot, Quote, Backquote, Part, Quoted, Backquoted, Unquoted, Splicing, Opened, Dotted, Ended, Put, Parts, Whole, Bad, most_parts, full_dot, unless_full, in_backquote, opened, delivered, closed, put}
 use Rattle.model_text.specs.Parts as lexeme
-use Rattle.model_text.specs.Next.{Inside, Free, AfterComma, State, Step, Goes, after, step, most_input, most_bytes, first_of, has_room, goes_on, mark, marked, token_put, comma_begun}
+use Rattle.model_text.specs.Next.{Inside, Free, AfterComma, State, Step, Goes, after, step, most_input, most_bytes, first_of, has_room, goes_on, mark, marked, token_put, counted, comma_ended, if_in_input, taken}
 use Rattle.model_text.specs.Spelling.{Gap, IsToken, Sort, AForm, ARest, begins_apart, Follows, begins_with_at, quoted_template, Spells}
 use Rattle.model_text.specs.Spelling as spelling
 use Rattle.model_text_laws.specs.Laws.{have_room}
 use Rattle.model_text_laws.proofs.Going.{st, free, begin, begin_is, done, going, room_of, counted_done, placed_done, step_inside}
-use Rattle.model_text_laws.proofs.Gaps.{mark_step, free_room, gap_going, Passed}
+use Rattle.model_text_laws.proofs.Gaps.{mark_step, goes_on_step, free_room, gap_going, Passed}
 use Rattle.model_text_laws.proofs.Tokens.{Upto, Stops, token_going, text_going}
 use Rattle.model_text_laws.proofs.Templates.{form_is, expansion_is, joined_push}
 
@@ -148,13 +148,178 @@ module _ (packages : Packages) (ended : Bool) where
   read_string q bs held h ps at first symbols rest d i l r k w = text_going packages ended bs held h ps at first symbols rest d r
 
   -- a form behind a mark that opens a part for it
-  read_behind : (m b : ℕ) (l : Lexeme) (p : Part) (c q q2 : Bool) (gap bs : List ℕ) (t : Template) (names : List QualifiedName) (n : ℕ) → Gap gap → IsRead q2 (AForm c) bs t names n
+  read_behind : (p : Part) (c q2 : Bool) (gap bs : List ℕ) (t : Template) (names : List QualifiedName) (n : ℕ) → Gap gap → IsRead q2 (AForm c) bs t names n
       → (ps : List Part) (at first : ℕ) (symbols : List QualifiedName) (rest : List ℕ) → full_dot (p ∷ ps) ≡ None → in_backquote (p ∷ ps) ≡ q2 → length ps + (n + 1) ≤ most_parts
       → Upto ((at + length gap) + length bs) first → have_room symbols names ≡ true → Stops ended c ((at + length gap) + length bs) rest
       → going packages ended (free (p ∷ ps) at first symbols) ((gap ++ bs) ++ rest)
       ≡ after (done (delivered (item_of t) (p ∷ ps)) ((at + length gap) + length bs) first (all_interned symbols names)) (λ t. going packages ended t rest)
-  read_behind m b l p c q q2 gap bs t names n g h ps at first symbols rest d i k r f w =
+  read_behind p c q2 gap bs t names n g h ps at first symbols rest d i k r f w =
       let a : at + length gap ≤ (at + length gap) + length bs = omega arith in
       ap (going packages ended (free (p ∷ ps) at first symbols)) (append_assoc gap bs rest)
       ∙ (gap_in p ps at first symbols gap (bs ++ rest) g (upto_less (at + length gap) ((at + length gap) + length bs) first a r)
       ∙ h (p ∷ ps) (at + length gap) first symbols rest d i (omega (arith, k)) r f w)
+
+  -- the places and the room behind a mark
+  behind : (at : ℕ) (gap bs : List ℕ) (m : ℕ) → ((at + 1) + length gap) + length bs ≡ at + length (m ∷ (gap ++ bs))
+  behind at gap bs m = omega (arith, length-append gap bs)
+
+  read_mark : (m : ℕ) (l : Lexeme) (p : Part) (c q q2 : Bool) (gap bs : List ℕ) (t u : Template) (names : List QualifiedName) (n : ℕ)
+      → ends_token m ≡ true → ((s : State) → mark m s ≡ marked l s)
+      → ((ps : List Part) (at : ℕ) → full_dot ps ≡ None → in_backquote ps ≡ q → length ps < most_parts → put l at ps ≡ Parts (p ∷ ps))
+      → ((ps : List Part) → in_backquote ps ≡ q → (full_dot (p ∷ ps) ≡ None) × (in_backquote (p ∷ ps) ≡ q2) × (delivered (item_of t) (p ∷ ps) ≡ delivered (item_of u) ps))
+      → Gap gap → IsRead q2 (AForm c) bs t names n → IsRead q (AForm c) (m ∷ (gap ++ bs)) u names (n + 1)
+  read_mark m l p c q q2 gap bs t u names n e mk pt part g h ps at first symbols rest d i k r f w =
+      let first' = begin ps at first in
+      let z = behind at gap bs m in
+      let a : at + 1 ≤ at + length (m ∷ (gap ++ bs)) = omega arith in
+      let x = part ps i in
+      open_going l m p ps at first symbols ((gap ++ bs) ++ rest) e (mk (free ps at first symbols)) (pt ps at d i (omega (arith, k))) (upto_less (at + 1) (at + length (m ∷ (gap ++ bs))) first' a r)
+      ∙ (read_behind p c q2 gap bs t names n g h ps (at + 1) first' symbols rest x.0 x.1 (omega (arith, k)) (record { input = omega (arith, z, r.input); bytes = omega (arith, z, r.bytes) }) f
+          (subst (λ (y : ℕ). Stops ended c y rest) (sym z) w)
+      ∙ (ap (λ y. after (done y (((at + 1) + length gap) + length bs) first' (all_interned symbols names)) (λ t. going packages ended t rest)) x.2
+      ∙ ap (λ y. after (done (delivered (item_of u) ps) y first' (all_interned symbols names)) (λ t. going packages ended t rest)) z))
+
+  read_quote : (q c : Bool) (gap bs : List ℕ) (t : Template) (names : List QualifiedName) (n : ℕ) → Gap gap → IsRead q (AForm c) bs t names n → IsRead q (AForm c) (39 ∷ (gap ++ bs)) (quoted_template t) names (n + 1)
+  read_quote q c gap bs t names n g h =
+      read_mark 39 Quote Quoted c q q gap bs t (quoted_template t) names n refl (λ s. refl)
+      (λ ps at d i l. rw d (opened_is Quoted at ps l))
+      (λ ps i. (refl, i, refl)) g h
+
+  read_backquote : (c : Bool) (gap bs : List ℕ) (t : Template) (names : List QualifiedName) (n : ℕ) → Gap gap → IsRead true (AForm c) bs t names n → IsRead false (AForm c) (96 ∷ (gap ++ bs)) (Constant (expansion t)) names (n + 1)
+  read_backquote c gap bs t names n g h =
+      read_mark 96 Backquote Backquoted c false true gap bs t (Constant (expansion t)) names n refl (λ s. refl)
+      (λ ps at d i l. rw (d, i) (opened_is Backquoted at ps l))
+      (λ ps i. (refl, refl, ap (λ x. delivered (Plain x) ps) (expansion_is t))) g h
+
+  read_listed : (q : Bool) (bs : List ℕ) (t : Template) (names : List QualifiedName) (n : ℕ) → IsRead q (ARest false) bs t names n → IsRead q (AForm false) (40 ∷ bs) t names (n + 1)
+  read_listed q bs t names n h ps at first symbols rest d i k r f w =
+      let first' = begin ps at first in
+      let a : at + 1 ≤ at + length (40 ∷ bs) = omega arith in
+      let z : (at + 1) + length bs ≡ at + length (40 ∷ bs) = omega arith in
+      open_going Open 40 (Opened []) ps at first symbols (bs ++ rest) refl refl (rw d (opened_is (Opened []) at ps (omega (arith, k)))) (upto_less (at + 1) (at + length (40 ∷ bs)) first' a r)
+      ∙ (h [] ps (at + 1) first' symbols rest tt i (omega (arith, k)) (record { input = omega (arith, z, r.input); bytes = omega (arith, z, r.bytes) }) f
+      ∙ ap (λ y. after (done (delivered (item_of t) ps) y first' (all_interned symbols names)) (λ t. going packages ended t rest)) z)
+
+  -- a bracket closes
+  close_going : (p : Part) (ps : List Part) (at first : ℕ) (symbols : List QualifiedName) (rest : List ℕ) → Upto (at + 1) first
+      → going packages ended (free (p ∷ ps) at first symbols) (41 ∷ rest) ≡ after (done (closed at (p ∷ ps)) (at + 1) first symbols) (λ t. going packages ended t rest)
+  close_going p ps at first symbols rest r = ap (λ x. after x (λ t. going packages ended t rest)) (mark_done Close 41 (p ∷ ps) at first symbols refl refl r)
+
+  read_close : (q b : Bool) (gap : List ℕ) → Gap gap → IsRead q (ARest b) (gap ++ 41 ∷ []) (Constant nil_form) [] 0
+  read_close q b gap g is ps at first symbols rest s i k r f =
+      let to = at + length (gap ++ 41 ∷ []) in
+      let len = length-append gap (41 ∷ []) in
+      let z : (at + length gap) + 1 ≡ to = omega (arith, len) in
+      let a : at + length gap ≤ to = omega (arith, len) in
+      ap (going packages ended (free (Opened is ∷ ps) at first symbols)) (append_assoc gap (41 ∷ []) rest)
+      ∙ (gap_in (Opened is) ps at first symbols gap (41 ∷ rest) g (upto_less (at + length gap) to first a r)
+      ∙ (close_going (Opened is) ps (at + length gap) first symbols rest (record { input = omega (arith, z, r.input); bytes = omega (arith, z, r.bytes) })
+      ∙ ap (λ y. after (done (delivered (joined_onto is (Plain nil_form)) ps) y first symbols) (λ t. going packages ended t rest)) z))
+
+  read_element : (q b c : Bool) (gap bs more : List ℕ) (t u : Template) (names names2 : List QualifiedName) (m n : ℕ) → Gap gap → IsRead q (AForm c) bs t names m → Follows c more → 0 < length more
+      → IsRead q (ARest true) more u names2 n → IsRead q (ARest b) (gap ++ (bs ++ more)) (Both t u) (names ++ names2) (max m n)
+  read_element q b c gap bs more t u names names2 m n g h w l h2 is ps at first symbols rest s i k r f =
+      let to = at + length (gap ++ (bs ++ more)) in
+      let len = length-append gap (bs ++ more) in
+      let len2 = length-append bs more in
+      let at1 = at + length gap in
+      let at2 = at1 + length bs in
+      let a1 : at1 ≤ to = omega (arith, len) in
+      let a2 : at2 ≤ to = omega (arith, len, len2) in
+      let z : at2 + length more ≡ to = omega (arith, len, len2) in
+      let a3 : at2 < most_input = omega (arith, z, l, r.input) in
+      let rooms = room_append symbols names names2 f in
+      let some : 0 < length (is ++ item_of t ∷ []) = omega (arith, length_push is (item_of t)) in
+      let symbols2 = all_interned symbols names in
+      ap (going packages ended (free (Opened is ∷ ps) at first symbols)) (append_assoc gap (bs ++ more) rest ∙ ap (λ (x : List ℕ). gap ++ x) (append_assoc bs more rest))
+      ∙ (gap_in (Opened is) ps at first symbols gap (bs ++ (more ++ rest)) g (upto_less at1 to first a1 r)
+      ∙ (h (Opened is ∷ ps) at1 first symbols (more ++ rest) refl i (omega (arith, k)) (upto_less at2 to first a2 r) rooms.0 (stops ended c at2 (more ++ rest) (follows_more c more rest w) a3)
+      ∙ (h2 (is ++ item_of t ∷ []) ps at2 first symbols2 rest some i (omega (arith, k)) (record { input = omega (arith, z, r.input); bytes = omega (arith, z, r.bytes) }) rooms.1
+      ∙ (ap (λ y. after (done (delivered y ps) (at2 + length more) first (all_interned symbols2 names2)) (λ t. going packages ended t rest)) (joined_push is (item_of t) (item_of u))
+      ∙ (ap (λ y. after (done (delivered (joined_onto is (item_of (Both t u))) ps) y first (all_interned symbols2 names2)) (λ t. going packages ended t rest)) z
+      ∙ ap (λ y. after (done (delivered (joined_onto is (item_of (Both t u))) ps) to first y) (λ t. going packages ended t rest)) (sym (interned_append symbols names names2)))))))
+
+  -- ---- commas
+
+  begin_in : (ps : List Part) (at first : ℕ) → in_backquote ps ≡ true → begin ps at first ≡ first
+  begin_in [] at first h = cc
+  begin_in (p ∷ ps) at first h = refl
+
+  first_comma : (ps : List Part) (at first : ℕ) (symbols : List QualifiedName) → first_of (st ps AfterComma [] at first symbols) ≡ first
+  first_comma ps at first symbols = grind (arith, nat_tests)
+
+  -- the comma opens a part once the byte behind it is there
+  comma_ended_is : (l : Lexeme) (ps : List Part) (at first : ℕ) (symbols : List QualifiedName) → at < first + most_bytes
+      → comma_ended l (st ps AfterComma [] (at + 1) first symbols) ≡ done (put l at ps) (at + 1) first symbols
+  comma_ended_is l ps at first symbols r =
+      let s = st ps AfterComma [] (at + 1) first symbols in
+      let z : (at + 1) - 1 ≡ at = omega arith in
+      let f = first_comma ps (at + 1) first symbols in
+      ap (λ n. counted (put l n ps) Free [] n s) z
+      ∙ (counted_done (put l at ps) at s (room_of s at (omega (arith, f, r)))
+      ∙ ap (λ n. done (put l at ps) (at + 1) n symbols) f)
+
+  comma_step : (b : ℕ) (ps : List Part) (at first : ℕ) (symbols : List QualifiedName) → (b == 64) ≡ false
+      → step packages (st ps AfterComma [] at first symbols) b ≡ after (comma_ended lexeme.Comma (st ps AfterComma [] at first symbols)) (λ t. if_in_input t (taken packages b t))
+  unfolding step
+  comma_step b ps at first symbols h = rw h refl
+
+  at_step : (ps : List Part) (at first : ℕ) (symbols : List QualifiedName)
+      → step packages (st ps AfterComma [] at first symbols) 64 ≡ after (comma_ended lexeme.CommaAt (st ps AfterComma [] at first symbols)) (λ t. if_in_input t (goes_on Free [] t))
+  unfolding step
+  at_step ps at first symbols = refl
+
+  step_again : (b : ℕ) (ps : List Part) (at first : ℕ) (symbols : List QualifiedName)
+      → if_in_input (free ps at first symbols) (taken packages b (free ps at first symbols)) ≡ step packages (free ps at first symbols) b
+  unfolding step
+  step_again b ps at first symbols = refl
+
+  comma_opens : (ps : List Part) (at first : ℕ) (symbols : List QualifiedName) → full_dot ps ≡ None → in_backquote ps ≡ true → at < most_input
+      → step packages (free ps at first symbols) 44 ≡ Goes (st ps AfterComma [] (at + 1) first symbols)
+  comma_opens ps at first symbols d i l = mark_step packages ended ps at first 44 symbols refl l ∙ (rw (d, i) refl)
+
+  -- a comma, with the byte behind it
+  comma_going : (ps : List Part) (at first : ℕ) (symbols : List QualifiedName) (xs : List ℕ) → 0 < length xs → begins_with_at xs ≡ false
+      → full_dot ps ≡ None → in_backquote ps ≡ true → length ps < most_parts → Upto (at + 1) first
+      → going packages ended (free ps at first symbols) (44 ∷ xs) ≡ going packages ended (free (Unquoted ∷ ps) (at + 1) first symbols) xs
+  comma_going ps at first symbols [] l h d i k r = absurd (omega (arith, l))
+  comma_going ps at first symbols (b ∷ xs) l h d i k r =
+      let opens : put lexeme.Comma at ps ≡ Parts (Unquoted ∷ ps) = rw (d, i) (opened_is Unquoted at ps k) in
+      ap (λ x. after x (λ t. going packages ended t (b ∷ xs))) (comma_opens ps at first symbols d i (omega (arith, r.input)))
+      ∙ ap (λ x. after x (λ t. going packages ended t xs))
+      (comma_step b ps (at + 1) first symbols h
+      ∙ (ap (λ x. after x (λ t. if_in_input t (taken packages b t))) (comma_ended_is lexeme.Comma ps at first symbols (omega (arith, r.bytes)) ∙ ap (λ x. done x (at + 1) first symbols) opens)
+      ∙ step_again b (Unquoted ∷ ps) (at + 1) first symbols))
+
+  at_going : (is : List Item) (ps : List Part) (at first : ℕ) (symbols : List QualifiedName) (xs : List ℕ) → in_backquote ps ≡ true → length ps + 1 < most_parts → Upto ((at + 1) + 1) first
+      → going packages ended (free (Opened is ∷ ps) at first symbols) (44 ∷ 64 ∷ xs) ≡ going packages ended (free (Splicing ∷ Opened is ∷ ps) ((at + 1) + 1) first symbols) xs
+  at_going is ps at first symbols xs i k r =
+      let qs = Opened is ∷ ps in
+      let t = free (Splicing ∷ qs) (at + 1) first symbols in
+      let opens : put lexeme.CommaAt at qs ≡ Parts (Splicing ∷ qs) = rw i (opened_is Splicing at qs (omega (arith, k))) in
+      let l : at + 1 < most_input = omega (arith, r.input) in
+      let f = begin_is (Splicing ∷ qs) (at + 1) first symbols in
+      ap (λ x. after x (λ u. going packages ended u (64 ∷ xs))) (comma_opens qs at first symbols refl i (omega (arith, r.input)))
+      ∙ ap (λ x. after x (λ u. going packages ended u xs))
+      (at_step qs (at + 1) first symbols
+      ∙ (ap (λ x. after x (λ u. if_in_input u (goes_on Free [] u))) (comma_ended_is lexeme.CommaAt qs at first symbols (omega (arith, r.bytes)) ∙ ap (λ x. done x (at + 1) first symbols) opens)
+      ∙ (rw (lt-ltb (at + 1) most_input l) refl
+      ∙ goes_on_step packages ended (Splicing ∷ qs) Free [] (at + 1) first symbols (omega (arith, r.bytes)))))
+
+  read_comma : (c : Bool) (gap bs : List ℕ) (t : Template) (names : List QualifiedName) (n : ℕ) → Gap gap → begins_with_at (gap ++ bs) ≡ false → 0 < length bs → has_comma t ≡ false
+      → IsRead false (AForm c) bs t names n → IsRead true (AForm c) (44 ∷ (gap ++ bs)) (Comma (form_of t)) names (n + 1)
+  read_comma c gap bs t names n g h l p e ps at first symbols rest d i k r f w =
+      let z = behind at gap bs 44 in
+      let first' = begin_in ps at first i in
+      let a : at + 1 ≤ at + length (44 ∷ (gap ++ bs)) = omega arith in
+      let r1 : Upto (at + length (44 ∷ (gap ++ bs))) first = record { input = r.input; bytes = omega (arith, r.bytes, first') } in
+      let some : 0 < length ((gap ++ bs) ++ rest) = omega (arith, l, length-append gap bs, length-append (gap ++ bs) rest) in
+      comma_going ps at first symbols ((gap ++ bs) ++ rest) some (still (gap ++ bs) rest (omega (arith, l, length-append gap bs)) h) d i (omega (arith, k)) (upto_less (at + 1) (at + length (44 ∷ (gap ++ bs))) first a r1)
+      ∙ (read_behind Unquoted c false gap bs t names n g e ps (at + 1) first symbols rest refl refl (omega (arith, k)) (record { input = omega (arith, z, r1.input); bytes = omega (arith, z, r1.bytes) }) f
+          (subst (λ (y : ℕ). Stops ended c y rest) (sym z) w)
+      ∙ (ap (λ y. after (done (delivered (Made y) ps) (((at + 1) + length gap) + length bs) first (all_interned symbols names)) (λ t. going packages ended t rest)) (form_is t p)
+      ∙ (ap (λ y. after (done (delivered (Made (form_of t)) ps) y first (all_interned symbols names)) (λ t. going packages ended t rest)) z
+      ∙ ap (λ y. after (done (delivered (Made (form_of t)) ps) (at + length (44 ∷ (gap ++ bs))) y (all_interned symbols names)) (λ t. going packages ended t rest)) (sym first')))) where
+    still : (xs ys : List ℕ) → 0 < length xs → begins_with_at xs ≡ false → begins_with_at (xs ++ ys) ≡ false
+    still [] ys l h = absurd (omega (arith, l))
+    still (x ∷ xs) ys l h = h
