@@ -323,3 +323,107 @@ module _ (packages : Packages) (ended : Bool) where
     still : (xs ys : List ℕ) → 0 < length xs → begins_with_at xs ≡ false → begins_with_at (xs ++ ys) ≡ false
     still [] ys l h = absurd (omega (arith, l))
     still (x ∷ xs) ys l h = h
+
+  read_spliced : (b c : Bool) (gap inner bs more : List ℕ) (t u : Template) (names names2 : List QualifiedName) (m n : ℕ) → Gap gap → Gap inner → has_comma t ≡ false → IsRead false (AForm c) bs t names m
+      → Follows c more → 0 < length more → IsRead true (ARest true) more u names2 n
+      → IsRead true (ARest b) (gap ++ (44 ∷ 64 ∷ (inner ++ (bs ++ more)))) (Both (CommaAt (form_of t)) u) (names ++ names2) (max (m + 1) n)
+  read_spliced b c gap inner bs more t u names names2 m n g g2 e h w l h2 is ps at first symbols rest s i k r f =
+      let to = at + length (gap ++ (44 ∷ 64 ∷ (inner ++ (bs ++ more)))) in
+      let len = length-append gap (44 ∷ 64 ∷ (inner ++ (bs ++ more))) in
+      let len1 = length-append inner (bs ++ more) in
+      let len2 = length-append bs more in
+      let at1 = at + length gap in
+      let at2 = (at1 + 1) + 1 in
+      let at3 = at2 + length inner in
+      let at4 = at3 + length bs in
+      let a1 : at1 ≤ to = omega (arith, len) in
+      let a2 : at2 ≤ to = omega (arith, len) in
+      let a3 : at3 ≤ to = omega (arith, len, len1) in
+      let a4 : at4 ≤ to = omega (arith, len, len1, len2) in
+      let z : at4 + length more ≡ to = omega (arith, len, len1, len2) in
+      let a5 : at4 < most_input = omega (arith, z, l, r.input) in
+      let rooms = room_append symbols names names2 f in
+      let some : 0 < length (is ++ Spliced (form_of t) ∷ []) = omega (arith, length_push is (Spliced (form_of t))) in
+      let symbols2 = all_interned symbols names in
+      let both_is = item_of (Both (CommaAt (form_of t)) u) in
+      ap (going packages ended (free (Opened is ∷ ps) at first symbols))
+      (append_assoc gap (44 ∷ 64 ∷ (inner ++ (bs ++ more))) rest
+      ∙ ap (λ (x : List ℕ). gap ++ (44 ∷ 64 ∷ x)) (append_assoc inner (bs ++ more) rest ∙ ap (λ (x : List ℕ). inner ++ x) (append_assoc bs more rest)))
+      ∙ (gap_in (Opened is) ps at first symbols gap (44 ∷ 64 ∷ (inner ++ (bs ++ (more ++ rest)))) g (upto_less at1 to first a1 r)
+      ∙ (at_going is ps at1 first symbols (inner ++ (bs ++ (more ++ rest))) i (omega (arith, k)) (upto_less at2 to first a2 r)
+      ∙ (gap_in Splicing (Opened is ∷ ps) at2 first symbols inner (bs ++ (more ++ rest)) g2 (upto_less at3 to first a3 r)
+      ∙ (h (Splicing ∷ Opened is ∷ ps) at3 first symbols (more ++ rest) refl refl (omega (arith, k)) (upto_less at4 to first a4 r) rooms.0 (stops ended c at4 (more ++ rest) (follows_more c more rest w) a5)
+      ∙ (ap (λ y. going packages ended (free (Opened (is ++ Spliced y ∷ []) ∷ ps) at4 first symbols2) (more ++ rest)) (form_is t e)
+      ∙ (h2 (is ++ Spliced (form_of t) ∷ []) ps at4 first symbols2 rest some i (omega (arith, k)) (record { input = omega (arith, z, r.input); bytes = omega (arith, z, r.bytes) }) rooms.1
+      ∙ (ap (λ y. after (done (delivered y ps) (at4 + length more) first (all_interned symbols2 names2)) (λ t. going packages ended t rest)) (joined_push is (Spliced (form_of t)) (item_of u))
+      ∙ (ap (λ y. after (done (delivered (joined_onto is both_is) ps) y first (all_interned symbols2 names2)) (λ t. going packages ended t rest)) z
+      ∙ ap (λ y. after (done (delivered (joined_onto is both_is) ps) to first y) (λ t. going packages ended t rest)) (sym (interned_append symbols names names2))))))))))
+
+  dot_token : token_of packages (46 ∷ []) ≡ token.Dot
+  unfolding token_of
+  dot_token = refl
+
+  dot_going : (i : Item) (is : List Item) (ps : List Part) (at first : ℕ) (symbols : List QualifiedName) (rest : List ℕ) → Upto (at + 1) first → Stops ended true (at + 1) rest
+      → going packages ended (free (Opened (i ∷ is) ∷ ps) at first symbols) (46 ∷ rest) ≡ going packages ended (free (Dotted (i ∷ is) at ∷ ps) (at + 1) first symbols) rest
+  dot_going i is ps at first symbols rest r w =
+      token_going packages ended (46 ∷ []) (Opened (i ∷ is) ∷ ps) at first symbols symbols (Parts (Dotted (i ∷ is) at ∷ ps)) rest
+      (record { some = omega arith; whole = refl; apart = refl }) refl r w
+      (λ s p y. ap (λ x. token_put (with_room symbols x) at s) dot_token
+      ∙ (placed_done (put Dot at s.parts) s.symbols s
+      ∙ (ap (λ x. done (put Dot at x) s.at s.first s.symbols) p ∙ ap (λ x. done (Parts (Dotted (i ∷ is) at ∷ ps)) s.at s.first x) y)))
+
+  read_dot : (q c : Bool) (gap inner bs last : List ℕ) (t : Template) (names : List QualifiedName) (n : ℕ) → Gap gap → Gap inner → Gap last → IsRead q (AForm c) bs t names n
+      → Follows true (inner ++ bs) → Follows c (last ++ 41 ∷ [])
+      → IsRead q (ARest true) (gap ++ (46 ∷ (inner ++ (bs ++ (last ++ 41 ∷ []))))) t names n
+  read_dot q c gap inner bs last t names n g g2 g3 h w w2 [] ps at first symbols rest s i k r f = absurd (omega (arith, s))
+  read_dot q c gap inner bs last t names n g g2 g3 h w w2 (i0 ∷ is) ps at first symbols rest s i k r f =
+      let all = i0 ∷ is in
+      let tail = last ++ 41 ∷ [] in
+      let to = at + length (gap ++ (46 ∷ (inner ++ (bs ++ tail)))) in
+      let len = length-append gap (46 ∷ (inner ++ (bs ++ tail))) in
+      let len1 = length-append inner (bs ++ tail) in
+      let len2 = length-append bs tail in
+      let len3 = length-append last (41 ∷ []) in
+      let at1 = at + length gap in
+      let at2 = (at1 + 1) + length inner in
+      let at3 = at2 + length bs in
+      let at4 = at3 + length last in
+      let a1 : at1 ≤ to = omega (arith, len) in
+      let a1' : at1 + 1 ≤ to = omega (arith, len) in
+      let a2 : at2 ≤ to = omega (arith, len, len1) in
+      let a3 : at3 ≤ to = omega (arith, len, len1, len2) in
+      let a4 : at4 ≤ to = omega (arith, len, len1, len2, len3) in
+      let z : at4 + 1 ≡ to = omega (arith, len, len1, len2, len3) in
+      let l1 : at1 + 1 < most_input = omega (arith, len, len1, len2, len3, r.input) in
+      let l3 : at3 < most_input = omega (arith, z, r.input) in
+      let symbols2 = all_interned symbols names in
+      let apart : begins_apart (inner ++ (bs ++ (tail ++ rest))) ≡ true = ap begins_apart (sym (append_assoc inner bs (tail ++ rest))) ∙ follows_more true (inner ++ bs) (tail ++ rest) w in
+      ap (going packages ended (free (Opened all ∷ ps) at first symbols))
+      (append_assoc gap (46 ∷ (inner ++ (bs ++ tail))) rest
+      ∙ ap (λ (x : List ℕ). gap ++ (46 ∷ x)) (append_assoc inner (bs ++ tail) rest ∙ ap (λ (x : List ℕ). inner ++ x) (append_assoc bs tail rest)))
+      ∙ (gap_in (Opened all) ps at first symbols gap (46 ∷ (inner ++ (bs ++ (tail ++ rest)))) g (upto_less at1 to first a1 r)
+      ∙ (dot_going i0 is ps at1 first symbols (inner ++ (bs ++ (tail ++ rest))) (upto_less (at1 + 1) to first a1' r) (stops ended true (at1 + 1) (inner ++ (bs ++ (tail ++ rest))) apart l1)
+      ∙ (gap_in (Dotted all at1) ps (at1 + 1) first symbols inner (bs ++ (tail ++ rest)) g2 (upto_less at2 to first a2 r)
+      ∙ (h (Dotted all at1 ∷ ps) at2 first symbols (tail ++ rest) refl i (omega (arith, k)) (upto_less at3 to first a3 r) f (stops ended c at3 (tail ++ rest) (follows_more c tail rest w2) l3)
+      ∙ (ap (going packages ended (free (Ended all at1 (item_of t) ∷ ps) at3 first symbols2)) (append_assoc last (41 ∷ []) rest)
+      ∙ (gap_in (Ended all at1 (item_of t)) ps at3 first symbols2 last (41 ∷ rest) g3 (upto_less at4 to first a4 r)
+      ∙ (close_going (Ended all at1 (item_of t)) ps at4 first symbols2 rest (record { input = omega (arith, z, r.input); bytes = omega (arith, z, r.bytes) })
+      ∙ ap (λ y. after (done (delivered (joined_onto all (item_of t)) ps) y first symbols2) (λ t. going packages ended t rest)) z)))))))
+
+  -- every spelling is read
+  pub spelling_read : (q : Bool) (sort : Sort) (bs : List ℕ) (t : Template) (names : List QualifiedName) (n : ℕ) → Spells packages q sort bs t names n → IsRead q sort bs t names n
+  spelling_read q sort bs t names n (spelling.integer p xs z k e) = read_integer p xs z k e
+  spelling_read q sort bs t names n (spelling.symbol p xs s k e) = read_symbol p xs s k e
+  spelling_read q sort bs t names n (spelling.string p xs held h) = read_string p xs held h
+  spelling_read q sort bs t names n (spelling.quote p c gap xs u ns m g h) = read_quote p c gap xs u ns m g (spelling_read p (AForm c) xs u ns m h)
+  spelling_read q sort bs t names n (spelling.backquote c gap xs u ns m g h) = read_backquote c gap xs u ns m g (spelling_read true (AForm c) xs u ns m h)
+  spelling_read q sort bs t names n (spelling.comma c gap xs u ns m g b h) =
+      read_comma c gap xs u ns m g b (some_bytes false (AForm c) xs u ns m h) (no_comma false (AForm c) xs u ns m h refl) (spelling_read false (AForm c) xs u ns m h)
+  spelling_read q sort bs t names n (spelling.listed p xs u ns m h) = read_listed p xs u ns m (spelling_read p (ARest false) xs u ns m h)
+  spelling_read q sort bs t names n (spelling.close p b gap g) = read_close p b gap g
+  spelling_read q sort bs t names n (spelling.element p b c gap xs rest u v ns more m k g h w i) =
+      read_element p b c gap xs rest u v ns more m k g (spelling_read p (AForm c) xs u ns m h) w (some_bytes p (ARest true) rest v more k i) (spelling_read p (ARest true) rest v more k i)
+  spelling_read q sort bs t names n (spelling.spliced b c gap inner xs rest u v ns more m k g g2 h w i) =
+      read_spliced b c gap inner xs rest u v ns more m k g g2 (no_comma false (AForm c) xs u ns m h refl) (spelling_read false (AForm c) xs u ns m h) w
+      (some_bytes true (ARest true) rest v more k i) (spelling_read true (ARest true) rest v more k i)
+  spelling_read q sort bs t names n (spelling.dot p c gap inner xs last u ns m g g2 g3 h w w2) = read_dot p c gap inner xs last u ns m g g2 g3 (spelling_read p (AForm c) xs u ns m h) w w2
