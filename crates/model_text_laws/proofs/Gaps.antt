@@ -213,9 +213,9 @@ module _ (packages : Packages) (ended : Bool) where
       step_inside packages ps Free hash (at + 1) (begin ps at first) symbols 124 refl (omega (arith, j, l))
       ∙ (goes_on_room (Block 1) [] s (room_of s (at + 1) (omega (arith, f, b)))
       ∙ ap (λ n. Goes (st ps (Block 1) [] ((at + 1) + 1) n symbols)) f) where
-    hash_room : (qs : List Part) (at to first : ℕ) → at + 1 < to → Within qs to first → (at + 1) - begin qs at first < most_bytes
-    hash_room [] at to first j r = omega arith
-    hash_room (p ∷ qs) at to first j r = omega (arith, j, r)
+        hash_room : (qs : List Part) (at to first : ℕ) → at + 1 < to → Within qs to first → (at + 1) - begin qs at first < most_bytes
+        hash_room [] at to first j r = omega arith
+        hash_room (p ∷ qs) at to first j r = omega (arith, j, r)
 
   -- where the outermost form begins stays the same, in a form
   pub record Passed (ps : List Part) (at first : ℕ) (symbols : List QualifiedName) (gap : List ℕ) : Type 0 where

@@ -3,3 +3,4 @@ pub mod Gaps
 pub mod Tokens
 pub mod Templates
 pub mod Read
+pub mod Found

@@ -14,10 +14,10 @@ use Rattle.model_text.specs.Parts as lexeme
 use Rattle.model_text.specs.Next.{Inside, Free, AfterComma, State, Step, Goes, after, step, most_input, most_bytes, first_of, has_room, goes_on, mark, marked, token_put, counted, comma_ended, if_in_input, taken}
 use Rattle.model_text.specs.Spelling.{Gap, IsToken, Sort, AForm, ARest, begins_apart, Follows, begins_with_at, quoted_template, Spells}
 use Rattle.model_text.specs.Spelling as spelling
-use Rattle.model_text_laws.specs.Laws.{have_room}
+use Rattle.model_text_laws.specs.Laws.{have_room, Stops}
 use Rattle.model_text_laws.proofs.Going.{st, free, begin, begin_is, done, going, room_of, counted_done, placed_done, step_inside}
 use Rattle.model_text_laws.proofs.Gaps.{mark_step, goes_on_step, free_room, gap_going, Passed}
-use Rattle.model_text_laws.proofs.Tokens.{Upto, Stops, token_going, text_going}
+use Rattle.model_text_laws.proofs.Tokens.{Upto, token_going, text_going}
 use Rattle.model_text_laws.proofs.Templates.{form_is, expansion_is, joined_push}
 
 both : (s t : Bool) → (s && t) ≡ true → (s ≡ true) × (t ≡ true)
@@ -175,7 +175,7 @@ module _ (packages : Packages) (ended : Bool) where
       let x = part ps i in
       open_going l m p ps at first symbols ((gap ++ bs) ++ rest) e (mk (free ps at first symbols)) (pt ps at d i (omega (arith, k))) (upto_less (at + 1) (at + length (m ∷ (gap ++ bs))) first' a r)
       ∙ (read_behind p c q2 gap bs t names n g h ps (at + 1) first' symbols rest x.0 x.1 (omega (arith, k)) (record { input = omega (arith, z, r.input); bytes = omega (arith, z, r.bytes) }) f
-          (subst (λ (y : ℕ). Stops ended c y rest) (sym z) w)
+      (subst (λ (y : ℕ). Stops ended c y rest) (sym z) w)
       ∙ (ap (λ y. after (done y (((at + 1) + length gap) + length bs) first' (all_interned symbols names)) (λ t. going packages ended t rest)) x.2
       ∙ ap (λ y. after (done (delivered (item_of u) ps) y first' (all_interned symbols names)) (λ t. going packages ended t rest)) z))
 
@@ -316,13 +316,13 @@ module _ (packages : Packages) (ended : Bool) where
       let some : 0 < length ((gap ++ bs) ++ rest) = omega (arith, l, length-append gap bs, length-append (gap ++ bs) rest) in
       comma_going ps at first symbols ((gap ++ bs) ++ rest) some (still (gap ++ bs) rest (omega (arith, l, length-append gap bs)) h) d i (omega (arith, k)) (upto_less (at + 1) (at + length (44 ∷ (gap ++ bs))) first a r1)
       ∙ (read_behind Unquoted c false gap bs t names n g e ps (at + 1) first symbols rest refl refl (omega (arith, k)) (record { input = omega (arith, z, r1.input); bytes = omega (arith, z, r1.bytes) }) f
-          (subst (λ (y : ℕ). Stops ended c y rest) (sym z) w)
+      (subst (λ (y : ℕ). Stops ended c y rest) (sym z) w)
       ∙ (ap (λ y. after (done (delivered (Made y) ps) (((at + 1) + length gap) + length bs) first (all_interned symbols names)) (λ t. going packages ended t rest)) (form_is t p)
       ∙ (ap (λ y. after (done (delivered (Made (form_of t)) ps) y first (all_interned symbols names)) (λ t. going packages ended t rest)) z
       ∙ ap (λ y. after (done (delivered (Made (form_of t)) ps) (at + length (44 ∷ (gap ++ bs))) y (all_interned symbols names)) (λ t. going packages ended t rest)) (sym first')))) where
-    still : (xs ys : List ℕ) → 0 < length xs → begins_with_at xs ≡ false → begins_with_at (xs ++ ys) ≡ false
-    still [] ys l h = absurd (omega (arith, l))
-    still (x ∷ xs) ys l h = h
+        still : (xs ys : List ℕ) → 0 < length xs → begins_with_at xs ≡ false → begins_with_at (xs ++ ys) ≡ false
+        still [] ys l h = absurd (omega (arith, l))
+        still (x ∷ xs) ys l h = h
 
   read_spliced : (b c : Bool) (gap inner bs more : List ℕ) (t u : Template) (names names2 : List QualifiedName) (m n : ℕ) → Gap gap → Gap inner → has_comma t ≡ false → IsRead false (AForm c) bs t names m
       → Follows c more → 0 < length more → IsRead true (ARest true) more u names2 n

@@ -13,6 +13,7 @@ use Rattle.model_text.specs.Next.{Inside, Free, Bars, BarsEscape, String, String
 use Rattle.model_text.specs.Spelling.{IsToken, goes_on_as_token, begins_block, Quoted}
 use Rattle.model_text.specs.Spelling as spelling
 use Rattle.model_text.specs.declared.TextCause.TheVariants.{TooLarge}
+use Rattle.model_text_laws.specs.Laws.{Stops}
 use Rattle.model_text_laws.proofs.Going.{st, free, begin, done, going, room_of, first_token, goes_on_room, step_inside, counted_done}
 use Rattle.model_text_laws.proofs.Gaps.{mark_step, goes_on_step, free_room}
 
@@ -86,12 +87,6 @@ inside_between false false = refl
 pub record Upto (to first : ℕ) : Type 0 where
   pub input : to ≤ most_input
   pub bytes : to ≤ first + most_bytes
-
--- the delimiter that a form needs is there, or the input ends
-abbrev pub Stops : Bool → Bool → ℕ → List ℕ → Type 0
-Stops ended false at rest = Unit {0}
-Stops ended true at [] = ended ≡ true
-Stops ended true at (b ∷ rest) = (ends_token b ≡ true) × (at < most_input)
 
 after_whole : (f : Form) (at first : ℕ) (symbols : List QualifiedName) (k : State → Step) → after (whole f at first symbols) k ≡ whole f at first symbols
 after_whole f at first symbols k = go (nat_le (weight f) max_weight) where

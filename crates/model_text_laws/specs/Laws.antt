@@ -1,8 +1,70 @@
 -- What is said of reading and printing, as laws.
 use Rattle.std.specs.Prelude.{◌≡◌, ℕ, ◌+◌, ◌<◌, ◌≤◌, List, [], ◌∷◌, ◌++◌, length, Bool, true, false, ◌&&◌, not}
-use Rattle.model_symbols.specs.Symbols.{QualifiedName, interned, is_one_too_many}
+use Rattle.model_objects.specs.Object.{weight, max_weight}
+use Rattle.model_symbols.specs.Symbols.{QualifiedName, Package, interned, all_interned, is_one_too_many}
+use Rattle.model_text.specs.Token.{Form, Packages, ends_token}
+use Rattle.model_text.specs.Backquote.{Template, form_of, expansion, item_of, item_expansion}
+use Rattle.model_text.specs.Parts.{most_parts}
+use Rattle.model_text.specs.Next.{next_at, Stands, most_bytes, most_input}
+use Rattle.model_text.specs.Spelling.{Gap, AForm, Spells}
 
 -- there is room for each of these symbols, where they become known one after the other
 abbrev pub have_room : List QualifiedName → List QualifiedName → Bool
 have_room symbols [] = true
 have_room symbols (s ∷ ss) = not (is_one_too_many symbols s) && have_room (interned symbols s) ss
+
+-- where a delimiter must follow, it does, within the input, or the input ends
+abbrev pub Stops : Bool → Bool → ℕ → List ℕ → Type 0
+Stops ended false at rest = Unit {0}
+Stops ended true at [] = ended ≡ true
+Stops ended true at (b ∷ rest) = (ends_token b ≡ true) × (at < most_input)
+
+abbrev pub packages_of : List Package → ℕ → Packages
+packages_of all current = record { all = all; current = current }
+
+-- the bytes from this offset on begin with blanks and comments and a spelling of the form, which ends at n and makes these symbols known
+pub record BeginsWith (all : List Package) (current : ℕ) (symbols : List QualifiedName) (offset : ℕ) (bytes : List ℕ) (ended : Bool) (f : Form) (n : ℕ) (known : List QualifiedName) : Type 0 where
+  pub gap : List ℕ
+  pub text : List ℕ
+  pub rest : List ℕ
+  pub apart : Bool
+  pub template : Template
+  pub names : List QualifiedName
+  pub depth : ℕ
+  pub split : bytes ≡ gap ++ (text ++ rest)
+  pub blank : Gap gap
+  pub spells : Spells (packages_of all current) false (AForm apart) text template names depth
+  pub form : form_of template ≡ f
+  pub ends : n ≡ (offset + length gap) + length text
+  pub stops : Stops ended apart n rest
+  pub knows : known ≡ all_interned symbols names
+  -- within the limits on nesting, on bytes of a form and of an input, on weight and on symbols
+  pub deep : depth ≤ most_parts
+  pub short : length text ≤ most_bytes
+  pub input : n ≤ most_input
+  pub light : weight f ≤ max_weight
+  pub room : have_room symbols names ≡ true
+
+-- what is spelled is found
+abbrev pub SpelledStands : Type 0
+SpelledStands = (all : List Package) (current : ℕ) (symbols : List QualifiedName) (offset : ℕ) (bytes : List ℕ) (ended : Bool) (f : Form) (n : ℕ) (known : List QualifiedName)
+    → BeginsWith all current symbols offset bytes ended f n known → next_at all current symbols offset bytes ended ≡ Stands f n known
+
+-- what is found is spelled
+abbrev pub StandsSpelled : Type 0
+StandsSpelled = (all : List Package) (current : ℕ) (symbols : List QualifiedName) (offset : ℕ) (bytes : List ℕ) (ended : Bool) (f : Form) (n : ℕ) (known : List QualifiedName)
+    → next_at all current symbols offset bytes ended ≡ Stands f n known → BeginsWith all current symbols offset bytes ended f n known
+
+-- the same bytes spell one form, of one length
+abbrev pub IsUnambiguous : Type 0
+IsUnambiguous = (all : List Package) (current : ℕ) (symbols : List QualifiedName) (offset : ℕ) (bytes : List ℕ) (ended : Bool) (f g : Form) (m n : ℕ) (known known2 : List QualifiedName)
+    → BeginsWith all current symbols offset bytes ended f m known → BeginsWith all current symbols offset bytes ended g n known2 → (f ≡ g) × (m ≡ n) × (known ≡ known2)
+
+-- a form that was found is found whatever comes behind it
+abbrev pub StaysFound : Type 0
+StaysFound = (all : List Package) (current : ℕ) (symbols : List QualifiedName) (offset : ℕ) (bytes more : List ℕ) (ended : Bool) (f : Form) (n : ℕ) (known : List QualifiedName)
+    → next_at all current symbols offset bytes false ≡ Stands f n known → next_at all current symbols offset (bytes ++ more) ended ≡ Stands f n known
+
+-- what is read of a template expands as the template does
+abbrev pub ExpandsAlike : Type 0
+ExpandsAlike = (t : Template) → item_expansion (item_of t) ≡ expansion t
