@@ -56,10 +56,14 @@ hidden_symbols = symbols_of hidden (codes "V" ∷ [])
 abbrev pub without_imports : List ℕ → Package
 without_imports name = record { name = name; imports = [] }
 
+-- the package that a session begins in
+unfoldable pub acl2_package : Package
+acl2_package = record { name = acl2; imports = common_lisp_symbols }
+
 -- the table that every session begins with
 unfoldable pub opening : Table
 opening = record {
-  packages = without_imports common_lisp ∷ without_imports keyword ∷ record { name = acl2; imports = common_lisp_symbols } ∷ without_imports hidden ∷ [];
+  packages = without_imports common_lisp ∷ without_imports keyword ∷ acl2_package ∷ without_imports hidden ∷ [];
   symbols = common_lisp_symbols ++ (acl2_symbols ++ hidden_symbols);
 }
 

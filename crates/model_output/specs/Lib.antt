@@ -1,0 +1,4 @@
+pub mod Text
+pub mod Commands
+pub mod Sessions
+pub mod Output
