@@ -4,13 +4,11 @@
 ghost use Rattle.model_text_laws.specs.Laws.{SpelledStands, IsUnambiguous, StaysFound, ExpandsAlike};
 
 /// Where blanks and comments and then a spelling of a form begin the bytes, within the limits, that form stands there.
-#[tactic(auto, using(crate::proofs::Found::spelled_stands))]
 pub fn what_is_spelled_is_found()
     ensures { SpelledStands }
 {}
 
 /// The same bytes spell one form, of one length.
-#[tactic(auto, using(crate::proofs::Found::is_unambiguous))]
 pub fn one_form_is_spelled()
     ensures { IsUnambiguous }
 {}
