@@ -4,3 +4,5 @@ pub mod Tokens
 pub mod Templates
 pub mod Read
 pub mod Found
+pub mod Names
+pub mod Colons
