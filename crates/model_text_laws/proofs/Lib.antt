@@ -6,3 +6,4 @@ pub mod Read
 pub mod Found
 pub mod Names
 pub mod Colons
+pub mod Printed

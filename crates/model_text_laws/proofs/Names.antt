@@ -93,7 +93,7 @@ good_by b h =
       raised = eqb-true (to_ascii_uppercase b) b q5.1;
     }
 
-good : (b : ℕ) → is_plain_byte b ≡ true → IsGood b
+pub good : (b : ℕ) → is_plain_byte b ≡ true → IsGood b
 good b h = elim (either (is_ascii_uppercase b) (is_ascii_digit b || list_any (λ c. c == b) (codes "!$%&*+-./<=>?@[]^_{}~")) h) [
   | inl l ↦ good_letter b l
   | inr o ↦ elim (either (is_ascii_digit b) (list_any (λ c. c == b) (codes "!$%&*+-./<=>?@[]^_{}~")) o) [
@@ -140,7 +140,7 @@ barred_token (b ∷ n) rest = go (b == 124) (b == 92) refl refl (barred_token n 
   go false true e f i = i
   go false false e f i = rw (e, f) i
 
-plain_parts : (n : List ℕ) → is_plain n ≡ true → (is_empty n ≡ false) × (list_all is_plain_byte n ≡ true) × (is_like_number n ≡ false)
+pub plain_parts : (n : List ℕ) → is_plain n ≡ true → (is_empty n ≡ false) × (list_all is_plain_byte n ≡ true) × (is_like_number n ≡ false)
 plain_parts n h =
     let q = both (not (is_empty n)) (list_all is_plain_byte n && not (is_like_number n)) h in
     let r = both (list_all is_plain_byte n) (not (is_like_number n)) q.1 in
