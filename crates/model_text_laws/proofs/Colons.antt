@@ -1,14 +1,13 @@
 -- Bytes with a colon are no number.
-use Rattle.std.specs.Prelude.{◌≡◌, ℕ, suc, ◌+◌, ◌-◌, ◌<◌, ◌≤◌, ◌==◌, List, [], ◌∷◌, ◌++◌, length, take, drop, slice_index, map, Bool, true, false, ◌&&◌, ◌||◌, not, if◌then◌else◌, refl, is_some, Option, Some, None, ℤ, ◌⊎◌, cond}
+use Rattle.std.specs.Prelude.{◌≡◌, ℕ, suc, ◌-◌, ◌==◌, List, [], ◌∷◌, length, take, drop, slice_index, Bool, true, false, ◌&&◌, ◌||◌, not, if◌then◌else◌, refl, Some, None, cond}
 use Rattle.std.specs.Char.{is_ascii_digit, is_digit}
 use Rattle.std.specs.List.{list_all, list_any}
 use Rattle.std.specs.Str.Parse.{without_leading_sign, signed_digits_value}
 use Rattle.std.proofs.Common.{sym, ap, ◌∙◌, arith, subst, inl, inr}
 use Rattle.std.proofs.lemmas.Bool.{eqb-true}
 use Rattle.std.proofs.lemmas.Bool.Decides.{nat_tests, eqb_tells}
-use Rattle.model_text.specs.Token.{is_empty, is_numeral, signed_of, based_of, without_last_dot, integer_of, begins_with_digit, after_digits, is_denominator, is_ratio, is_exponent, ends_float, is_float, are_dots}
+use Rattle.model_text.specs.Token.{is_empty, is_numeral, without_last_dot, integer_of, begins_with_digit, after_digits, is_denominator, is_exponent, ends_float, are_dots}
 use Rattle.model_text.specs.Text.{is_like_number}
-use Rattle.model_text_laws.proofs.Names.{both, either, neither}
 
 abbrev pub has_colon : List ℕ → Bool
 has_colon bs = list_any (λ b. b == 58) bs
@@ -54,9 +53,9 @@ colon_last (b ∷ c ∷ cs) e h =
     let y : length (c ∷ cs) - 1 ≡ length cs = omega arith in
     let e' : (slice_index (c ∷ cs) (length (c ∷ cs) - 1) == 46) ≡ true = ap (λ n. slice_index (c ∷ cs) n == 46) y ∙ (ap (λ n. slice_index (b ∷ c ∷ cs) n == 46) (sym z) ∙ e) in
     rw z (go (b == 58) refl (λ k. ap (λ n. has_colon (take n (c ∷ cs))) (sym y) ∙ colon_last (c ∷ cs) e' k)) where
-  go : (x : Bool) → (b == 58) ≡ x → (has_colon (c ∷ cs) ≡ true → has_colon (take (length cs) (c ∷ cs)) ≡ true) → has_colon (b ∷ take (length cs) (c ∷ cs)) ≡ true
-  go true q i = rw q refl
-  go false q i = rw q (i (rw q at h))
+      go : (x : Bool) → (b == 58) ≡ x → (has_colon (c ∷ cs) ≡ true → has_colon (take (length cs) (c ∷ cs)) ≡ true) → has_colon (b ∷ take (length cs) (c ∷ cs)) ≡ true
+      go true q i = rw q refl
+      go false q i = rw q (i (rw q at h))
 
 colon_undotted : (bs : List ℕ) → has_colon bs ≡ true → has_colon (without_last_dot bs) ≡ true
 colon_undotted bs h = go (slice_index bs (length bs - 1) == 46) refl where

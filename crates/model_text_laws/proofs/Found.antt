@@ -1,17 +1,16 @@
 -- What is spelled is found, once, and stays found.
-use Rattle.std.specs.Prelude.{◌≡◌, ℕ, ◌+◌, ◌<◌, ◌≤◌, nat_le, List, [], ◌∷◌, ◌++◌, length, Bool, true, false, refl}
+use Rattle.std.specs.Prelude.{◌≡◌, ℕ, ◌+◌, ◌≤◌, List, [], ◌++◌, length, Bool, true, false, refl}
 use Rattle.std.proofs.Common.{sym, ap, ◌∙◌, arith, subst}
 use Rattle.std.proofs.lemmas.Bool.{le-leb}
 use Rattle.model_objects.specs.Object.{weight, max_weight}
-use Rattle.model_symbols.specs.Symbols.{QualifiedName, Package, all_interned}
+use Rattle.model_symbols.specs.Symbols.{QualifiedName, all_interned}
 use Rattle.model_text.specs.Token.{Form, Packages}
 use Rattle.model_text.specs.Backquote.{form_of}
-use Rattle.model_text.specs.Parts.{Whole}
-use Rattle.model_text.specs.Next.{State, Step, Goes, Gives, Fails, after, run, nothing_read, ended_step, answer, Next, Stands, next_at, whole, most_input}
+use Rattle.model_text.specs.Next.{State, Step, Goes, Gives, Fails, after, run, nothing_read, ended_step, answer, Stands, next_at, whole, most_input}
 use Rattle.model_text.specs.Spelling.{AForm}
 use Rattle.model_text.proofs.RunLemmas.{run_append}
-use Rattle.model_text_laws.specs.Laws.{packages_of, BeginsWith, SpelledStands, IsUnambiguous, StaysFound, ExpandsAlike, Stops}
-use Rattle.model_text_laws.proofs.Going.{free, done, going, going_is}
+use Rattle.model_text_laws.specs.Laws.{packages_of, SpelledStands, IsUnambiguous, StaysFound, ExpandsAlike, Stops}
+use Rattle.model_text_laws.proofs.Going.{free, going, going_is}
 use Rattle.model_text_laws.proofs.Gaps.{gap_going}
 use Rattle.model_text_laws.proofs.Templates.{form_is, expansion_is}
 use Rattle.model_text_laws.proofs.Read.{no_comma, spelling_read}

@@ -7,3 +7,4 @@ pub mod Found
 pub mod Names
 pub mod Colons
 pub mod Printed
+pub mod Back

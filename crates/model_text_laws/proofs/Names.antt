@@ -1,14 +1,12 @@
 -- The text of a name is read as that name.
-use Rattle.std.specs.Prelude.{◌≡◌, ℕ, ◌+◌, ◌-◌, ◌<◌, ◌≤◌, ◌==◌, List, [], ◌∷◌, ◌++◌, length, map, Bool, true, false, ◌&&◌, ◌||◌, not, if◌then◌else◌, refl, codes, is_some, Option, Some, None, ℤ, ◌⊎◌}
-use Rattle.std.specs.Char.{to_ascii_uppercase, is_ascii_digit, is_ascii_uppercase, is_digit}
+use Rattle.std.specs.Prelude.{◌≡◌, ℕ, ◌==◌, List, [], ◌∷◌, ◌++◌, map, Bool, true, false, ◌&&◌, ◌||◌, not, if◌then◌else◌, refl, codes, ◌⊎◌}
+use Rattle.std.specs.Char.{to_ascii_uppercase, is_ascii_digit, is_ascii_uppercase}
 use Rattle.std.specs.List.{list_all, list_any}
-use Rattle.std.specs.Str.{bytes_eq}
-use Rattle.std.specs.Str.Parse.{without_leading_sign}
-use Rattle.std.proofs.Common.{sym, ap, ◌∙◌, arith, subst, inl, inr}
+use Rattle.std.proofs.Common.{ap, ◌∙◌, arith, subst, inl, inr}
 use Rattle.std.proofs.lemmas.List.{append_assoc}
 use Rattle.std.proofs.lemmas.Bool.{eqb-true}
 use Rattle.std.proofs.lemmas.Bool.Decides.{nat_tests, eqb_tells}
-use Rattle.model_text.specs.Token.{is_empty, is_bar, is_graphic, ends_token, Letter, Raised, Kept, Bar, Outside, Between, Escaped, letters, name_of, is_raised, is_colon, before_colon, from_colon, begins_with_hash, behind_colon, is_part, written, Plainly, Within, is_numeral, signed_of, based_of, without_last_dot, integer_of, begins_with_digit, after_digits, is_denominator, is_ratio, is_exponent, ends_float, is_float, are_dots}
+use Rattle.model_text.specs.Token.{is_empty, is_bar, is_graphic, ends_token, Letter, Raised, Kept, Bar, Outside, Between, letters, name_of, is_raised, is_colon, before_colon, from_colon, begins_with_hash, behind_colon, is_part, written, Plainly, Within}
 use Rattle.model_symbols.specs.Opening.{keyword}
 use Rattle.model_text.specs.Text.{is_plain_byte, is_like_number, is_plain, escaped, name_text}
 use Rattle.model_text.specs.Spelling.{goes_on_as_token}

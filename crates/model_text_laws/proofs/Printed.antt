@@ -1,5 +1,5 @@
 -- The text of an atom is a spelling of it.
-use Rattle.std.specs.Prelude.{◌≡◌, ℕ, suc, ◌+◌, ◌-◌, ◌<◌, ◌≤◌, ◌==◌, ◌^◌, List, [], ◌∷◌, ◌++◌, length, take, map, slice_index, Bool, true, false, ◌&&◌, ◌||◌, not, if◌then◌else◌, refl, is_some, Option, Some, None, ℤ, pos, negsuc, neg_ℤ}
+use Rattle.std.specs.Prelude.{◌≡◌, ℕ, suc, ◌-◌, ◌<◌, ◌==◌, ◌^◌, List, [], ◌∷◌, ◌++◌, length, map, slice_index, Bool, true, false, ◌&&◌, ◌||◌, if◌then◌else◌, refl, is_some, Option, Some, None, ℤ, pos, negsuc, neg_ℤ}
 use Rattle.std.specs.Char.{to_ascii_uppercase, is_ascii_digit, is_digit, digit_value}
 use Rattle.std.specs.List.{list_all, list_any}
 use Rattle.std.specs.Str.{bytes_eq}
@@ -8,18 +8,18 @@ use Rattle.std.specs.Str.Parse.{IsNumeral, AllDigits, signed_digits_value, witho
 use Rattle.std.proofs.Common.{sym, ap, ◌∙◌, arith, subst}
 use Rattle.std.proofs.lemmas.Fmt.{decimal_is_IsNumeral_wide}
 use Rattle.std.proofs.lemmas.List.{append_assoc, append-nil, map-append}
-use Rattle.std.proofs.lemmas.Bool.{lt-ltb}
+use Rattle.std.proofs.lemmas.Bool.{lt-ltb, ltb-true}
 use Rattle.std.proofs.lemmas.Bool.Decides.{nat_tests}
 use Rattle.std.proofs.lemmas.Slice.Eq.{bytes_eq-Decides}
 use Rattle.model_objects.specs.Object.{fits_128}
 use Rattle.model_symbols.specs.Symbols.{QualifiedName, Package, same_name, package_number, package_at, symbol_in}
-use Rattle.model_symbols.specs.Opening.{keyword, hidden}
-use Rattle.model_text.specs.Token.{Packages, is_empty, is_bar, Letter, Raised, Outside, letters, written, Plainly, Within, Written, integer_of, signed_of, is_numeral, without_last_dot, is_ratio, is_float, are_dots, Token, Number, Name, token_of, written_token, bare_token, number_token, numbered_token, ends_token, is_graphic}
-use Rattle.model_text.specs.Text.{is_plain_byte, is_like_number, is_plain, escaped, name_text, symbol_text, prefix_text, is_at_home}
+use Rattle.model_symbols.specs.Opening.{keyword}
+use Rattle.model_text.specs.Token.{Packages, is_empty, is_bar, Raised, Outside, letters, written, integer_of, signed_of, is_numeral, without_last_dot, is_ratio, is_float, are_dots, Number, Name, token_of, written_token, bare_token, numbered_token, ends_token, is_graphic}
+use Rattle.model_text.specs.Text.{is_plain_byte, is_like_number, is_plain, escaped, name_text, symbol_text, is_at_home}
 use Rattle.model_text.specs.Spelling.{IsToken, goes_on_as_token, begins_block, Quoted}
 use Rattle.model_text.specs.Spelling as spelling
 use Rattle.model_text_laws.specs.Laws.{packages_of, IsReadable}
-use Rattle.model_text_laws.proofs.Names.{both, either, neither, not_true, any_append, part_letters, part_is, text_letters, text_token, written_plainly, written_keyword, written_within, good, plain_parts}
+use Rattle.model_text_laws.proofs.Names.{both, neither, any_append, part_letters, part_is, text_letters, text_token, written_plainly, written_keyword, written_within, good, plain_parts}
 use Rattle.model_text_laws.proofs.Colons.{has_colon, begins_with, colon_no_number}
 
 and_false : (b : Bool) → (b && false) ≡ false
@@ -107,7 +107,7 @@ no_block (b ∷ bs) h = rw h refl
 
 -- ---- symbols
 
-same_is : (s t : QualifiedName) → same_name s t ≡ true → s ≡ t
+pub same_is : (s t : QualifiedName) → same_name s t ≡ true → s ≡ t
 same_is s t h =
     let q = both (bytes_eq s.home t.home) (bytes_eq s.name t.name) h in
     let a : s.home ≡ t.home = (bytes_eq-Decides s.home t.home).0 q.0 in
@@ -132,9 +132,9 @@ symbol_read all current symbols s r = go (bytes_eq s.home keyword) (is_at_home k
   keyword_read e = (
     record { some = omega arith; whole = token_alone s.name; apart = refl },
     token_by_letters k (58 ∷ name_text s.name) (λ h. (ap (λ (x : List ℕ). 58 ∷ x) (text_up s.name h), colon_no_number (58 ∷ name_text s.name) refl refl))
-    ∙ (ap (λ ls. written_token k (written (Raised 58 ∷ ls))) (letters_alone s.name)
-    ∙ (ap (written_token k) (written_keyword s.name (part_letters s.name) (part_is s.name))
-    ∙ (ap (λ n. numbered_token k n s.name) (ap (package_number all) (sym e) ∙ r.package_known) ∙ ap Name r.has))),
+        ∙ (ap (λ ls. written_token k (written (Raised 58 ∷ ls))) (letters_alone s.name)
+        ∙ (ap (written_token k) (written_keyword s.name (part_letters s.name) (part_is s.name))
+        ∙ (ap (λ n. numbered_token k n s.name) (ap (package_number all) (sym e) ∙ r.package_known) ∙ ap Name r.has))),
   )
 
   home_read : is_at_home k s ≡ true → Reads k (name_text s.name) s
@@ -142,9 +142,9 @@ symbol_read all current symbols s r = go (bytes_eq s.home keyword) (is_at_home k
       let x = starts_alone s.name in (
         record { some = x.some; whole = token_alone s.name; apart = no_block (name_text s.name) x.hash },
         token_by_letters k (name_text s.name) (λ h. (text_up s.name h, text_no_number s.name h))
-        ∙ (ap (λ ls. written_token k (written ls)) (letters_alone s.name)
-        ∙ (ap (written_token k) (written_plainly s.name (part_letters s.name) (part_is s.name))
-        ∙ ap Name (same_is (symbol_in (package_at all current) s.name) s e))),
+            ∙ (ap (λ ls. written_token k (written ls)) (letters_alone s.name)
+            ∙ (ap (written_token k) (written_plainly s.name (part_letters s.name) (part_is s.name))
+            ∙ ap Name (same_is (symbol_in (package_at all current) s.name) s e))),
       )
 
   within_read : Reads k (name_text s.home ++ 58 ∷ 58 ∷ name_text s.name) s
@@ -155,14 +155,14 @@ symbol_read all current symbols s r = go (bytes_eq s.home keyword) (is_at_home k
       let colons : has_colon all_bytes ≡ true = any_append (λ b. b == 58) (name_text s.home) more ∙ or_true (has_colon (name_text s.home)) in (
         record { some = x.some; whole = text_token s.home more ∙ token_alone s.name; apart = no_block all_bytes x.hash },
         token_by_letters k all_bytes
-        (λ h. let q = neither (list_any is_bar (name_text s.home)) (list_any is_bar more) (sym (any_append is_bar (name_text s.home) more) ∙ h) in (
-          map-append to_ascii_uppercase (name_text s.home) more ∙ (rw (text_up s.home q.0, text_up s.name q.1) refl),
-          colon_no_number all_bytes colons x.hash,
-        ))
-        ∙ (ap (λ ls. written_token k (written ls)) (text_letters s.home more ∙ ap (λ ls. part_letters s.home ++ Raised 58 ∷ Raised 58 ∷ ls) (letters_alone s.name))
-        ∙ (ap (written_token k) (written_within s.home s.name (part_letters s.home) (part_letters s.name) (part_is s.home) (part_is s.name))
-        ∙ (ap (λ (b : Bool). numbered_token k (if b then None else package_number all s.home) s.name) r.nameable
-        ∙ (ap (λ n. numbered_token k n s.name) r.package_known ∙ ap Name r.has)))),
+            (λ h. let q = neither (list_any is_bar (name_text s.home)) (list_any is_bar more) (sym (any_append is_bar (name_text s.home) more) ∙ h) in (
+              map-append to_ascii_uppercase (name_text s.home) more ∙ (rw (text_up s.home q.0, text_up s.name q.1) refl),
+              colon_no_number all_bytes colons x.hash,
+            ))
+            ∙ (ap (λ ls. written_token k (written ls)) (text_letters s.home more ∙ ap (λ ls. part_letters s.home ++ Raised 58 ∷ Raised 58 ∷ ls) (letters_alone s.name))
+            ∙ (ap (written_token k) (written_within s.home s.name (part_letters s.home) (part_letters s.name) (part_is s.home) (part_is s.name))
+            ∙ (ap (λ (b : Bool). numbered_token k (if b then None else package_number all s.home) s.name) r.nameable
+            ∙ (ap (λ n. numbered_token k n s.name) r.package_known ∙ ap Name r.has)))),
       )
 
   go : (x y : Bool) → bytes_eq s.home keyword ≡ x → is_at_home k s ≡ y
@@ -230,3 +230,63 @@ last_no_dot (b ∷ c ∷ cs) h =
 
 undotted_same : (bs : List ℕ) → list_all is_integer_byte bs ≡ true → without_last_dot bs ≡ bs
 undotted_same bs h = rw (last_no_dot bs h) refl
+
+integer_is : (bs : List ℕ) (z : ℤ) → list_all is_integer_byte bs ≡ true → is_numeral 10 (without_leading_sign bs) ≡ true → signed_digits_value 10 bs ≡ z → integer_of bs ≡ Some z
+integer_is [] z h n v = cc
+integer_is (b ∷ bs) z h n v =
+    let x = integer_byte b (both (is_integer_byte b) (list_all is_integer_byte bs) h).0 in
+    rw x.hash (ap (signed_of 10) (undotted_same (b ∷ bs) h)
+    ∙ (ap (λ t. if t then Some (signed_digits_value 10 (b ∷ bs)) else None) n ∙ ap Some v))
+
+integer_token : (k : Packages) (bs : List ℕ) (z : ℤ) → list_all is_integer_byte bs ≡ true → 0 < length bs → is_numeral 10 (without_leading_sign bs) ≡ true → signed_digits_value 10 bs ≡ z → fits_128 z ≡ true
+    → IsToken bs × (token_of k bs ≡ Number z)
+unfolding token_of
+integer_token k bs z h l n v f =
+    let t = integer_text bs h in (
+      record { some = l; whole = t.token; apart = no_block bs (no_hash bs h) },
+      rw t.bar (ap (λ (x : List ℕ). bare_token k x (integer_of x)) t.raised ∙ (ap (bare_token k bs) (integer_is bs z h n v) ∙ (rw f refl))),
+    ) where
+      no_hash : (cs : List ℕ) → list_all is_integer_byte cs ≡ true → begins_with 35 cs ≡ false
+      no_hash [] h = refl
+      no_hash (c ∷ cs) h = (integer_byte c (both (is_integer_byte c) (list_all is_integer_byte cs) h).0).hash
+
+unsigned_is : (bs : List ℕ) → IsNumeral 10 bs → without_leading_sign bs ≡ bs
+unsigned_is [] h = absurd (omega (arith, h.0))
+unsigned_is (b ∷ bs) h = let d = digit_is b h.1.0 in grind (arith, nat_tests)
+
+no_minus : (ds : List ℕ) → IsNumeral 10 ds → starts_with_minus ds ≡ false
+no_minus [] h = absurd (omega (arith, h.0))
+no_minus (b ∷ bs) h = let d = digit_is b h.1.0 in grind (arith, nat_tests)
+
+numeral_test : (ds : List ℕ) → IsNumeral 10 ds → is_numeral 10 ds ≡ true
+numeral_test ds h = let e : is_empty ds ≡ false = grind (arith, nat_tests) in rw (e, digits_test ds h.1) refl
+
+pub integer_read : (k : Packages) (z : ℤ) → fits_128 z ≡ true → IsToken (signed_decimal z) × (token_of k (signed_decimal z) ≡ Number z)
+integer_read k (pos n) f =
+    let l : n < 2 ^ 127 = ltb-true n (2 ^ 127) f in
+    let small : n < 10 ^ 64 = omega (arith, l) in
+    let num = decimal_is_IsNumeral_wide n small in
+    let ds = decimal n in
+    let u = unsigned_is ds num.0 in
+    let t : is_numeral 10 (without_leading_sign ds) ≡ true = rw u (numeral_test ds num.0) in
+    let v : signed_digits_value 10 ds ≡ pos n = rw (u, no_minus ds num.0) (ap pos num.1) in
+    integer_token k ds (pos n) (digits_bytes ds num.0.1) num.0.0 t v f
+integer_read k (negsuc n) f =
+    let l : n < 2 ^ 127 = ltb-true n (2 ^ 127) f in
+    let small : suc n < 10 ^ 64 = omega (arith, l) in
+    let num = decimal_is_IsNumeral_wide (suc n) small in
+    let ds = decimal (suc n) in
+    let t : is_numeral 10 ds ≡ true = numeral_test ds num.0 in
+    let v : signed_digits_value 10 (45 ∷ ds) ≡ negsuc n = ap (λ m. neg_ℤ (pos m)) num.1 in
+    integer_token k (45 ∷ ds) (negsuc n) (digits_bytes ds num.0.1) (omega arith) t v f
+
+-- ---- strings
+
+pub string_quoted : (bytes : List ℕ) → Quoted (escaped 34 bytes ++ 34 ∷ []) bytes
+string_quoted [] = spelling.end
+string_quoted (b ∷ bytes) = go (b == 34) (b == 92) refl refl (string_quoted bytes) where
+  go : (x y : Bool) → (b == 34) ≡ x → (b == 92) ≡ y → Quoted (escaped 34 bytes ++ 34 ∷ []) bytes
+      → Quoted ((if x || y then 92 ∷ b ∷ escaped 34 bytes else b ∷ escaped 34 bytes) ++ 34 ∷ []) (b ∷ bytes)
+  go true y e f q = spelling.escape b (escaped 34 bytes ++ 34 ∷ []) bytes q
+  go false true e f q = spelling.escape b (escaped 34 bytes ++ 34 ∷ []) bytes q
+  go false false e f q = spelling.byte b (escaped 34 bytes ++ 34 ∷ []) bytes e f q

@@ -1,22 +1,22 @@
 -- What is spelled is read.
-use Rattle.std.specs.Prelude.{◌≡◌, ℕ, ◌+◌, ◌-◌, ◌<◌, ◌≤◌, ◌==◌, max, nat_lt, List, [], ◌∷◌, ◌++◌, length, Bool, true, false, ◌&&◌, ◌||◌, not, if◌then◌else◌, refl, None, ℤ}
+use Rattle.std.specs.Prelude.{◌≡◌, ℕ, ◌+◌, ◌-◌, ◌<◌, ◌≤◌, ◌==◌, max, List, [], ◌∷◌, ◌++◌, length, Bool, true, false, ◌&&◌, not, refl, None, ℤ}
 use Rattle.std.proofs.Common.{sym, ap, ◌∙◌, arith, length-append, subst}
-use Rattle.std.proofs.lemmas.List.{append_assoc, append-nil, length_push}
+use Rattle.std.proofs.lemmas.List.{append_assoc, length_push}
 use Rattle.std.proofs.lemmas.Bool.{lt-ltb}
 use Rattle.std.proofs.lemmas.Bool.Decides.{nat_tests}
 use Rattle.model_objects.specs.Object.{Integer, Symbol, Text}
 use Rattle.model_symbols.specs.Symbols.{QualifiedName, interned, all_interned, is_one_too_many}
 use Rattle.model_text.specs.Token.{Packages, ends_token, token_of, with_room, Token, Number, Name}
 use Rattle.model_text.specs.Token as token
-use Rattle.model_text.specs.Backquote.{Template, Constant, Comma, CommaAt, Both, form_of, expansion, has_comma, Item, Plain, Made, Spliced, joined_onto, item_of, item_form, nil_form, quoted_item}
+use Rattle.model_text.specs.Backquote.{Template, Constant, Comma, CommaAt, Both, form_of, expansion, has_comma, Item, Plain, Made, Spliced, joined_onto, item_of, nil_form}
 use Rattle.model_text.specs.Parts.{Lexeme, Atom, Open, Close, Dot, Quote, Backquote, Part, Quoted, Backquoted, Unquoted, Splicing, Opened, Dotted, Ended, Put, Parts, Whole, Bad, most_parts, full_dot, unless_full, in_backquote, opened, delivered, closed, put}
 use Rattle.model_text.specs.Parts as lexeme
-use Rattle.model_text.specs.Next.{Inside, Free, AfterComma, State, Step, Goes, after, step, most_input, most_bytes, first_of, has_room, goes_on, mark, marked, token_put, counted, comma_ended, if_in_input, taken}
+use Rattle.model_text.specs.Next.{Free, AfterComma, State, Goes, after, step, most_input, most_bytes, first_of, goes_on, mark, marked, token_put, counted, comma_ended, if_in_input, taken}
 use Rattle.model_text.specs.Spelling.{Gap, IsToken, Sort, AForm, ARest, begins_apart, Follows, begins_with_at, quoted_template, Spells}
 use Rattle.model_text.specs.Spelling as spelling
 use Rattle.model_text_laws.specs.Laws.{have_room, Stops}
-use Rattle.model_text_laws.proofs.Going.{st, free, begin, begin_is, done, going, room_of, counted_done, placed_done, step_inside}
-use Rattle.model_text_laws.proofs.Gaps.{mark_step, goes_on_step, free_room, gap_going, Passed}
+use Rattle.model_text_laws.proofs.Going.{st, free, begin, begin_is, done, going, room_of, counted_done, placed_done}
+use Rattle.model_text_laws.proofs.Gaps.{mark_step, goes_on_step, free_room, gap_going}
 use Rattle.model_text_laws.proofs.Tokens.{Upto, token_going, text_going}
 use Rattle.model_text_laws.proofs.Templates.{form_is, expansion_is, joined_push}
 

@@ -1,8 +1,7 @@
 -- Templates, and what they are read as.
 use Rattle.std.specs.Prelude.{◌≡◌, List, [], ◌∷◌, ◌++◌, Bool, true, false, ◌||◌, if◌then◌else◌, refl}
-use Rattle.std.proofs.Common.{sym, ap, ◌∙◌}
+use Rattle.std.proofs.Common.{ap, ◌∙◌}
 use Rattle.model_objects.specs.Object.{Pair}
-use Rattle.model_text.specs.Token.{Form}
 use Rattle.model_text.specs.Backquote.{Template, Constant, Comma, CommaAt, Both, has_comma, form_of, expansion, pair_expansion, quote_form, cons_form, Item, Plain, Made, Spliced, item_form, item_expansion, joined, joined_onto, item_of}
 
 or_false : (s t : Bool) → (s || t) ≡ false → (s ≡ false) × (t ≡ false)

@@ -1,21 +1,21 @@
 -- A token, and a string, from its first byte to its last.
-use Rattle.std.specs.Prelude.{◌≡◌, ℕ, ◌+◌, ◌-◌, ◌<◌, ◌≤◌, ◌==◌, nat_le, List, [], ◌∷◌, ◌++◌, length, Bool, true, false, ◌&&◌, ◌||◌, not, if◌then◌else◌, refl, ◌⊎◌, None}
+use Rattle.std.specs.Prelude.{◌≡◌, ℕ, ◌+◌, ◌-◌, ◌<◌, ◌≤◌, ◌==◌, nat_le, List, [], ◌∷◌, ◌++◌, length, Bool, true, false, ◌&&◌, ◌||◌, not, if◌then◌else◌, refl, None}
 use Rattle.std.specs.Str.{bytes_eq}
-use Rattle.std.proofs.Common.{sym, ap, ◌∙◌, arith, inl, inr, length-append, subst}
+use Rattle.std.proofs.Common.{sym, ap, ◌∙◌, arith, subst}
 use Rattle.std.proofs.lemmas.List.{append_assoc, append-nil, length_push}
 use Rattle.std.proofs.lemmas.Bool.Decides.{nat_tests}
 use Rattle.model_objects.specs.Object.{Text, weight, max_weight}
 use Rattle.model_symbols.specs.Symbols.{QualifiedName}
 use Rattle.model_text.specs.Token.{Form, Packages, is_empty, is_bar, is_graphic, ends_token, Place, Outside, Between, Escaped, token_of, with_room}
 use Rattle.model_text.specs.Backquote.{Plain}
-use Rattle.model_text.specs.Parts.{Part, Put, Parts, Whole, Bad, full_dot, unless_full, delivered}
-use Rattle.model_text.specs.Next.{Inside, Free, Bars, BarsEscape, String, StringEscape, Line, Block, BlockHash, BlockBar, AfterComma, State, Step, Goes, Gives, Fails, after, step, most_input, most_bytes, first_of, has_room, goes_on, counted, whole, mark, letter, token_put, token_ended, ended_step, taken_inside, is_after_comma, is_open_question}
+use Rattle.model_text.specs.Parts.{Part, Put, Parts, Whole, Bad, full_dot, delivered}
+use Rattle.model_text.specs.Next.{Inside, Free, Bars, BarsEscape, String, StringEscape, Line, Block, BlockHash, BlockBar, AfterComma, State, Step, Goes, Gives, Fails, after, step, most_input, most_bytes, first_of, goes_on, whole, mark, letter, token_put, token_ended, ended_step, taken_inside, is_after_comma, is_open_question}
 use Rattle.model_text.specs.Spelling.{IsToken, goes_on_as_token, begins_block, Quoted}
 use Rattle.model_text.specs.Spelling as spelling
 use Rattle.model_text.specs.declared.TextCause.TheVariants.{TooLarge}
 use Rattle.model_text_laws.specs.Laws.{Stops}
 use Rattle.model_text_laws.proofs.Going.{st, free, begin, done, going, room_of, first_token, goes_on_room, step_inside, counted_done}
-use Rattle.model_text_laws.proofs.Gaps.{mark_step, goes_on_step, free_room}
+use Rattle.model_text_laws.proofs.Gaps.{mark_step, goes_on_step}
 
 both : (s t : Bool) → (s && t) ≡ true → (s ≡ true) × (t ≡ true)
 both true t h = (refl, h)
