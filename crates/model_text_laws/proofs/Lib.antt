@@ -8,3 +8,4 @@ pub mod Names
 pub mod Colons
 pub mod Printed
 pub mod Back
+pub mod Sound
