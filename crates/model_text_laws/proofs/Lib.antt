@@ -9,3 +9,4 @@ pub mod Colons
 pub mod Printed
 pub mod Back
 pub mod Sound
+pub mod Holding

@@ -146,7 +146,7 @@ module _ (packages : Packages) where
     pub form : form_of template ≡ f
     pub spelled : In 0 false (AForm c) text template ns
 
-  room_ok : (gap : List ℕ) (ps : List Part) (xs : List ℕ) (c : Bool) (ns : List QualifiedName) → Sound gap ps xs c ns → length ps ≤ most_parts
+  pub room_ok : (gap : List ℕ) (ps : List Part) (xs : List ℕ) (c : Bool) (ns : List QualifiedName) → Sound gap ps xs c ns → length ps ≤ most_parts
   room_ok gap [] xs c ns s = omega arith
   room_ok gap (Quoted ∷ ps) xs c ns s = omega (arith, s.room)
   room_ok gap (Backquoted ∷ ps) xs c ns s = omega (arith, s.0.room)
@@ -434,6 +434,20 @@ module _ (packages : Packages) where
     room = s.room;
     below = s.below;
   }
+
+  -- behind a gap, what comes next is settled
+  pub settled_gap : (p : Part) (ps : List Part) (gap xs piece : List ℕ) (c : Bool) (ns : List QualifiedName) (s : Sound gap (p ∷ ps) xs c ns) (g : Gap piece) (w : Follows c piece)
+      → Settled gap (p ∷ ps) xs c ns s piece → Settled gap (p ∷ ps) (xs ++ piece) false ns (gap_sound p ps gap xs piece c ns s g w) []
+  unfolding gap_sound marked_gap
+  settled_gap Quoted ps gap xs piece c ns s g w h = tt
+  settled_gap Backquoted ps gap xs piece c ns s g w h = tt
+  settled_gap Unquoted ps gap xs piece c ns s g w h =
+      let P : List ℕ → Type 0 = λ l. (0 < length l) × (begins_with_at l ≡ false) in
+      subst P (sym (append-nil (s.0.inside ++ piece))) h
+  settled_gap Splicing ps gap xs piece c ns s g w h = tt
+  settled_gap (Opened is) ps gap xs piece c ns s g w h = tt
+  settled_gap (Dotted is d) ps gap xs piece c ns s g w h = tt
+  settled_gap (Ended is d i) ps gap xs piece c ns s g w h = tt
 
   -- ---- marks
 
