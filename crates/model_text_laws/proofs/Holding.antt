@@ -99,14 +99,14 @@ module _ (packages : Packages) (o : ℕ) (known : List QualifiedName) where
   busy_first ps i held at first symbols h = rw h refl
 
   -- the state after a byte that was taken
-  next_first : (ps : List Part) (i : Inside) (held : List ℕ) (at first : ℕ) (symbols : List QualifiedName) (gap ys : List ℕ)
+  pub next_first : (ps : List Part) (i : Inside) (held : List ℕ) (at first : ℕ) (symbols : List QualifiedName) (gap ys : List ℕ)
       → at ≡ o + length ys → first ≡ o + length gap → (is_idle (st ps i held at first symbols) ≡ true → ys ≡ gap) → first_of (st ps i held at first symbols) ≡ o + length gap
   next_first ps i held at first symbols gap ys a f h = go (is_idle (st ps i held at first symbols)) refl where
     go : (x : Bool) → is_idle (st ps i held at first symbols) ≡ x → first_of (st ps i held at first symbols) ≡ o + length gap
     go true e = idle_first ps i held at first symbols e ∙ (a ∙ ap (λ (l : List ℕ). o + length l) (h e))
     go false e = busy_first ps i held at first symbols e ∙ f
 
-  room_is : (s : State) (n : ℕ) → is_comment s.inside ≡ false → has_room s n ≡ true → n < first_of s + most_bytes
+  pub room_is : (s : State) (n : ℕ) → is_comment s.inside ≡ false → has_room s n ≡ true → n < first_of s + most_bytes
   room_is s n c h =
       let e : (nat_lt (n - first_of s) most_bytes) ≡ true = pick (is_empty s.parts) (is_comment s.inside) (nat_lt (n - first_of s) most_bytes) c h in
       let l : n - first_of s < most_bytes = ltb-true (n - first_of s) most_bytes e in
@@ -117,19 +117,19 @@ module _ (packages : Packages) (o : ℕ) (known : List QualifiedName) where
     pick false y z c h = h
 
   -- a whole form
-  whole_comes : (xs : List ℕ) (b : ℕ) (f : Form) (n first : ℕ) (symbols : List QualifiedName)
+  pub whole_comes : (xs : List ℕ) (b : ℕ) (f : Form) (n first : ℕ) (symbols : List QualifiedName)
       → (weight f ≤ max_weight → (Finds xs true f n symbols × (ends_token b ≡ true) × (n < most_input)) ⊎ Finds (xs ++ b ∷ []) false f n symbols) → Comes xs b (whole f n first symbols)
   whole_comes xs b f n first symbols h = go (nat_le (weight f) max_weight) refl where
     go : (x : Bool) → nat_le (weight f) max_weight ≡ x → Comes xs b (if x then Gives f n symbols else Fails TooLarge first)
     go true e = h (leb-true (weight f) max_weight e)
     go false e = tt
 
-  gap_before : (ps : List Part) (gap before : List ℕ) (c : Bool) (ns : List QualifiedName) → Sound packages gap ps before c ns → is_empty ps ≡ true → before ≡ gap
+  pub gap_before : (ps : List Part) (gap before : List ℕ) (c : Bool) (ns : List QualifiedName) → Sound packages gap ps before c ns → is_empty ps ≡ true → before ≡ gap
   gap_before [] gap before c ns s h = s.0
   gap_before (p ∷ ps) gap before c ns s h = absurd (grind (arith, nat_tests))
 
   -- the state after the byte b, which was taken
-  result : (ps qs : List Part) (i j : Inside) (held more : List ℕ) (at first b : ℕ) (symbols : List QualifiedName) (xs gap before part : List ℕ) (c : Bool) (ns : List QualifiedName)
+  pub result : (ps qs : List Part) (i j : Inside) (held more : List ℕ) (at first b : ℕ) (symbols : List QualifiedName) (xs gap before part : List ℕ) (c : Bool) (ns : List QualifiedName)
       → Situation gap xs ns at (first_of (st ps i held at first symbols)) symbols → at < most_input → has_room (st ps i held at first symbols) at ≡ true → (0 < length more → is_comment i ≡ false)
       → xs ++ b ∷ [] ≡ before ++ part → (sd : Sound packages gap qs before c ns) → Follows c part → Settled packages gap qs before c ns sd part → Lexing j more part
       → (is_idle (st qs j more (at + 1) (first_of (st ps i held at first symbols)) symbols) ≡ true → xs ++ b ∷ [] ≡ gap)
@@ -154,7 +154,7 @@ module _ (packages : Packages) (o : ℕ) (known : List QualifiedName) where
         input = omega (arith, l);
       }
 
-  not_idle : (ps : List Part) (j : Inside) (more : List ℕ) (at first : ℕ) (symbols : List QualifiedName) {A : Type 0} → (is_empty more && is_free j) ≡ false → is_idle (st ps j more at first symbols) ≡ true → A
+  pub not_idle : (ps : List Part) (j : Inside) (more : List ℕ) (at first : ℕ) (symbols : List QualifiedName) {A : Type 0} → (is_empty more && is_free j) ≡ false → is_idle (st ps j more at first symbols) ≡ true → A
   not_idle ps j more at first symbols n h = let e : is_idle (st ps j more at first symbols) ≡ false = rw n (and_false (is_empty ps)) in absurd (let q : true ≡ false = sym h ∙ e in cc) where
     and_false : (b : Bool) → (b && false) ≡ false
     and_false true = refl

@@ -10,3 +10,4 @@ pub mod Printed
 pub mod Back
 pub mod Sound
 pub mod Holding
+pub mod Bytes
