@@ -18,6 +18,7 @@ use Rattle.model_text.specs.Parts as lexeme
 use Rattle.model_text.specs.Next.{Inside, Free, Bars, BarsEscape, String, StringEscape, Line, Block, BlockHash, BlockBar, AfterComma, State, Step, Goes, Gives, Fails, after, is_idle, is_free, is_comment, first_of, has_room, whole, counted, goes_on, marked, placed, token_put, token_ended, mark, letter, is_open_question, comma_begun, free_byte, most_bytes, most_input}
 use Rattle.model_text.specs.Spelling.{Gap, AForm, IsToken, Follows, begins_apart, goes_on_as_token, begins_block, is_line, Quoted, begins_with_at}
 use Rattle.model_text.specs.Spelling as spelling
+use Rattle.model_text.specs.declared.TextCause.{TextCause}
 use Rattle.model_text.specs.declared.TextCause.TheVariants.{TooLarge, FormTooLong, BadDot, CommaOutside, BadByte, BadToken, IntegerTooWide, TooManySymbols}
 use Rattle.model_text_laws.specs.Laws.{have_room}
 use Rattle.model_text_laws.proofs.Going.{st, free, first_token}
@@ -216,12 +217,14 @@ module _ (packages : Packages) (o : ℕ) (known : List QualifiedName) where
     go true h f = cc
     go false h f = f h
 
-  -- a whole token, and a byte that ends it
-  token_comes : (b : ℕ) (ps : List Part) (held : List ℕ) (at first : ℕ) (symbols : List QualifiedName) (xs gap before : List ℕ) (c : Bool) (ns : List QualifiedName) → ends_token b ≡ true
-      → Situation packages o known gap xs ns at first symbols → at < most_input → at ≤ first + most_bytes → 0 < length held → TokenSoFar Outside held
+  -- a whole token: whatever holds of a fault, and of each put that leaves sound parts, holds of what the token does
+  pub token_does : (R : Step → Type 0) (ps : List Part) (held : List ℕ) (at first : ℕ) (symbols : List QualifiedName) (xs gap before : List ℕ) (c : Bool) (ns : List QualifiedName)
+      → ((x : TextCause) (n : ℕ) → R (Fails x n))
+      → ((x : Put) (symbols2 ns2 : List QualifiedName) → Situation packages o known gap xs ns2 at first symbols2 → Delivers packages [] gap x xs true ns2 → R (placed x symbols2 (st ps Free held at first symbols)))
+      → Situation packages o known gap xs ns at first symbols → 0 < length held → TokenSoFar Outside held
       → xs ≡ before ++ held → (sd : Sound packages gap ps before c ns) → Follows c held → Settled packages gap ps before c ns sd held → (start : ℕ)
-      → Comes packages o known xs b (after (token_put (with_room symbols (token_of packages held)) start (st ps Free held at first symbols)) (mark b))
-  token_comes b ps held at first symbols xs gap before c ns e m l k some t split sd w v start = go (token_of packages held) refl where
+      → R (token_put (with_room symbols (token_of packages held)) start (st ps Free held at first symbols))
+  token_does R ps held at first symbols xs gap before c ns fails puts m some t split sd w v start = go (token_of packages held) refl where
     s : State
     s = st ps Free held at first symbols
 
@@ -232,28 +235,25 @@ module _ (packages : Packages) (o : ℕ) (known : List QualifiedName) where
     deep = let r = room_ok packages gap ps before c ns sd in omega (arith, r)
 
     -- a form that the token spells
-    form_comes : (u : Template) (f : Form) (names symbols2 : List QualifiedName) → In packages (length ps) (in_backquote ps) (AForm true) held u names → delivered (Plain f) ps ≡ delivered (item_of u) ps
-        → Situation packages o known gap xs (ns ++ names) at first symbols2 → Comes packages o known xs b (after (placed (delivered (Plain f) ps) symbols2 s) (mark b))
-    form_comes u f names symbols2 i q n =
+    form_does : (u : Template) (f : Form) (names symbols2 : List QualifiedName) → In packages (length ps) (in_backquote ps) (AForm true) held u names → delivered (Plain f) ps ≡ delivered (item_of u) ps
+        → Situation packages o known gap xs (ns ++ names) at first symbols2 → R (placed (delivered (Plain f) ps) symbols2 s)
+    form_does u f names symbols2 i q n =
         let d = deliver_sound packages ps gap before held u c true ns names sd i w (settled_not_at packages gap ps before c ns sd held v) in
-        subst (λ (x : Put). Comes packages o known xs b (after (placed x symbols2 s) (mark b))) (sym q)
-        (placed_comes (delivered (item_of u) ps) b ps held at first symbols symbols2 xs gap (ns ++ names) e n l k
-            (subst (λ (y : List ℕ). Delivers packages [] gap (delivered (item_of u) ps) y true (ns ++ names)) (sym split) d))
+        subst (λ (x : Put). R (placed x symbols2 s)) (sym q)
+        (puts (delivered (item_of u) ps) symbols2 (ns ++ names) n (subst (λ (y : List ℕ). Delivers packages [] gap (delivered (item_of u) ps) y true (ns ++ names)) (sym split) d))
 
-    dot_comes : (k2 : Bool) → c ≡ k2 → held ≡ 46 ∷ [] → Comes packages o known xs b (after (placed (put Dot start ps) symbols s) (mark b))
-    dot_comes true q h = let x : begins_apart held ≡ true = subst (λ (z : Bool). Follows z held) q w in let y : begins_apart (46 ∷ []) ≡ true = ap begins_apart (sym h) ∙ x in cc
-    dot_comes false q h =
+    dot_does : (k2 : Bool) → c ≡ k2 → held ≡ 46 ∷ [] → R (placed (put Dot start ps) symbols s)
+    dot_does true q h = let x : begins_apart held ≡ true = subst (λ (z : Bool). Follows z held) q w in let y : begins_apart (46 ∷ []) ≡ true = ap begins_apart (sym h) ∙ x in cc
+    dot_does false q h =
         let sd2 = subst (λ (z : Bool). Sound packages gap ps before z ns) q sd in
         let d = dot_sound packages start gap before ps ns sd2 in
         let split2 : before ++ 46 ∷ [] ≡ xs = ap (λ (y : List ℕ). before ++ y) (sym h) ∙ sym split in
-        placed_comes (put Dot start ps) b ps held at first symbols symbols xs gap ns e m l k
-        (subst (λ (y : List ℕ). Delivers packages [] gap (put Dot start ps) y true ns) split2 d)
+        puts (put Dot start ps) symbols ns m (subst (λ (y : List ℕ). Delivers packages [] gap (put Dot start ps) y true ns) split2 d)
 
-    name_comes : (q : QualifiedName) → token_of packages held ≡ Name q → (x : Bool) → is_one_too_many symbols q ≡ x
-        → Comes packages o known xs b (after (token_put (if x then Wrong TooManySymbols else Name q) start s) (mark b))
-    name_comes q h true f = tt
-    name_comes q h false f =
-        form_comes (Constant (Symbol q)) (Symbol q) (q ∷ []) (interned symbols q) (record { depth = 0; deep = deep; spells = spelling.symbol (in_backquote ps) held q is_token h }) refl
+    name_does : (q : QualifiedName) → token_of packages held ≡ Name q → (x : Bool) → is_one_too_many symbols q ≡ x → R (token_put (if x then Wrong TooManySymbols else Name q) start s)
+    name_does q h true f = fails TooManySymbols start
+    name_does q h false f =
+        form_does (Constant (Symbol q)) (Symbol q) (q ∷ []) (interned symbols q) (record { depth = 0; deep = deep; spells = spelling.symbol (in_backquote ps) held q is_token h }) refl
         (record {
           blank = m.blank;
           offset = m.offset;
@@ -262,13 +262,22 @@ module _ (packages : Packages) (o : ℕ) (known : List QualifiedName) where
           room = have_more known ns q m.room (ap (λ (y : List QualifiedName). is_one_too_many y q) (sym m.knows) ∙ f);
         })
 
-    go : (x : Token) → token_of packages held ≡ x → Comes packages o known xs b (after (token_put (with_room symbols x) start s) (mark b))
-    go token.Dot h = dot_comes c refl (dot_is held h)
+    go : (x : Token) → token_of packages held ≡ x → R (token_put (with_room symbols x) start s)
+    go token.Dot h = dot_does c refl (dot_is held h)
     go (Number n) h =
-        form_comes (Constant (Integer n)) (Integer n) [] symbols (record { depth = 0; deep = deep; spells = spelling.integer (in_backquote ps) held n is_token h }) refl
+        form_does (Constant (Integer n)) (Integer n) [] symbols (record { depth = 0; deep = deep; spells = spelling.integer (in_backquote ps) held n is_token h }) refl
         (record { blank = m.blank; offset = m.offset; begins = m.begins; knows = m.knows ∙ ap (all_interned known) (sym (append-nil ns)); room = ap (have_room known) (append-nil ns) ∙ m.room })
-    go (Name q) h = name_comes q h (is_one_too_many symbols q) refl
-    go (Wrong x) h = tt
+    go (Name q) h = name_does q h (is_one_too_many symbols q) refl
+    go (Wrong x) h = fails x start
+
+  -- and a byte that ends it
+  token_comes : (b : ℕ) (ps : List Part) (held : List ℕ) (at first : ℕ) (symbols : List QualifiedName) (xs gap before : List ℕ) (c : Bool) (ns : List QualifiedName) → ends_token b ≡ true
+      → Situation packages o known gap xs ns at first symbols → at < most_input → at ≤ first + most_bytes → 0 < length held → TokenSoFar Outside held
+      → xs ≡ before ++ held → (sd : Sound packages gap ps before c ns) → Follows c held → Settled packages gap ps before c ns sd held → (start : ℕ)
+      → Comes packages o known xs b (after (token_put (with_room symbols (token_of packages held)) start (st ps Free held at first symbols)) (mark b))
+  token_comes b ps held at first symbols xs gap before c ns e m l k some t split sd w v start =
+      token_does (λ r. Comes packages o known xs b (after r (mark b))) ps held at first symbols xs gap before c ns (λ x n. tt)
+      (λ x symbols2 ns2 n d. placed_comes x b ps held at first symbols symbols2 xs gap ns2 e n l k d) m some t split sd w v start
 
   -- ---- bytes outside strings, bars and comments
 
@@ -297,14 +306,14 @@ module _ (packages : Packages) (o : ℕ) (known : List QualifiedName) where
     no_block (c ∷ []) n t = grind (arith, nat_tests)
     no_block (c ∷ d ∷ h) n t = t
 
-  follows_push : (c : Bool) (part : List ℕ) (b : ℕ) → Follows c part → Follows c (part ++ b ∷ [])
+  pub follows_push : (c : Bool) (part : List ℕ) (b : ℕ) → Follows c part → Follows c (part ++ b ∷ [])
   follows_push c part b w = follows_more c part (b ∷ []) w
 
   some_push : (xs : List ℕ) (b : ℕ) → is_empty (xs ++ b ∷ []) ≡ false
   some_push xs b = let l = length_push xs b in grind (arith, nat_tests, l)
 
   -- a byte that belongs to the token
-  kept_comes : (p q : Place) (i j : Inside) (b : ℕ) (ps : List Part) (held : List ℕ) (at first : ℕ) (symbols : List QualifiedName) (xs : List ℕ) → Ready b ps i held at first symbols xs
+  pub kept_comes : (p q : Place) (i j : Inside) (b : ℕ) (ps : List Part) (held : List ℕ) (at first : ℕ) (symbols : List QualifiedName) (xs : List ℕ) → Ready b ps i held at first symbols xs
       → is_comment i ≡ false → ((h part : List ℕ) → part ≡ h → TokenSoFar q h → Lexing j h part) → ((h part : List ℕ) → Lexing i h part → (part ≡ h) × TokenSoFar p h)
       → ((rest : List ℕ) → goes_on_as_token p (b ∷ rest) ≡ goes_on_as_token q rest) → (bytes_eq held (35 ∷ []) && is_bar b) ≡ false
       → Comes packages o known xs b (goes_on j (held ++ b ∷ []) (st ps i held at first symbols))
@@ -314,13 +323,13 @@ module _ (packages : Packages) (o : ℕ) (known : List QualifiedName) where
       (follows_push r.apart r.part b r.follows) r.settled
       (to (held ++ b ∷ []) (r.part ++ b ∷ []) (ap (λ (y : List ℕ). y ++ b ∷ []) x.0) (token_step_so_far p q held b f n x.1)) (rw (some_push held b) refl)
 
-  free_to : (h part : List ℕ) → part ≡ h → TokenSoFar Outside h → Lexing Free h part
+  pub free_to : (h part : List ℕ) → part ≡ h → TokenSoFar Outside h → Lexing Free h part
   free_to h part e t = (e, t)
 
-  bars_to : (h part : List ℕ) → part ≡ h → TokenSoFar Between h → Lexing Bars h part
+  pub bars_to : (h part : List ℕ) → part ≡ h → TokenSoFar Between h → Lexing Bars h part
   bars_to h part e t = (e, t)
 
-  escape_to : (h part : List ℕ) → part ≡ h → TokenSoFar Escaped h → Lexing BarsEscape h part
+  pub escape_to : (h part : List ℕ) → part ≡ h → TokenSoFar Escaped h → Lexing BarsEscape h part
   escape_to h part e t = (e, t)
 
   letter_comes : (b : ℕ) (ps : List Part) (held : List ℕ) (at first : ℕ) (symbols : List QualifiedName) (xs : List ℕ) → Ready b ps Free held at first symbols xs
@@ -366,7 +375,7 @@ module _ (packages : Packages) (o : ℕ) (known : List QualifiedName) where
     go true h = block h
     go false h = question h (is_open_question held b) refl
 
-  free_comes : (b : ℕ) (ps : List Part) (held : List ℕ) (at first : ℕ) (symbols : List QualifiedName) (xs : List ℕ) → Ready b ps Free held at first symbols xs
+  pub free_comes : (b : ℕ) (ps : List Part) (held : List ℕ) (at first : ℕ) (symbols : List QualifiedName) (xs : List ℕ) → Ready b ps Free held at first symbols xs
       → Comes packages o known xs b (free_byte packages b (st ps Free held at first symbols))
   free_comes b ps held at first symbols xs r = go (ends_token b) (is_graphic b) refl refl where
     s : State

@@ -35,6 +35,10 @@ StringSoFar raw held = (rest more : List ℕ) → Quoted rest more → Quoted (r
 abbrev pub BlockSoFar : ℕ → List ℕ → Type 0
 BlockSoFar n raw = (m : ℕ) × (n ≡ m + 1) × ((rest : List ℕ) → spelling.Block m rest → spelling.Block 0 (raw ++ rest))
 
+-- the same, where the last byte c may be half of a mark and is not among them
+abbrev pub MarkSoFar : ℕ → ℕ → List ℕ → Type 0
+MarkSoFar c n raw = (m : ℕ) × (n ≡ m + 1) × ((rest : List ℕ) → spelling.Block m (c ∷ rest) → spelling.Block 0 (raw ++ c ∷ rest))
+
 -- what has begun and not ended: the bytes of it
 abbrev pub Lexing : Inside → List ℕ → List ℕ → Type 0
 Lexing Free held part = (part ≡ held) × TokenSoFar Outside held
@@ -44,8 +48,8 @@ Lexing String held part = (raw : List ℕ) × (part ≡ 34 ∷ raw) × StringSoF
 Lexing StringEscape held part = (raw : List ℕ) × (part ≡ 34 ∷ (raw ++ 92 ∷ [])) × StringSoFar raw held
 Lexing Line held part = (raw : List ℕ) × (part ≡ 59 ∷ raw) × (is_line raw ≡ true) × (held ≡ [])
 Lexing (Block n) held part = (raw : List ℕ) × (part ≡ 35 ∷ 124 ∷ raw) × BlockSoFar n raw × (held ≡ [])
-Lexing (BlockHash n) held part = (raw : List ℕ) × (part ≡ 35 ∷ 124 ∷ (raw ++ 35 ∷ [])) × BlockSoFar n raw × (held ≡ [])
-Lexing (BlockBar n) held part = (raw : List ℕ) × (part ≡ 35 ∷ 124 ∷ (raw ++ 124 ∷ [])) × BlockSoFar n raw × (held ≡ [])
+Lexing (BlockHash n) held part = (raw : List ℕ) × (part ≡ 35 ∷ 124 ∷ (raw ++ 35 ∷ [])) × MarkSoFar 35 n raw × (held ≡ [])
+Lexing (BlockBar n) held part = (raw : List ℕ) × (part ≡ 35 ∷ 124 ∷ (raw ++ 124 ∷ [])) × MarkSoFar 124 n raw × (held ≡ [])
 Lexing AfterComma held part = (part ≡ 44 ∷ []) × (held ≡ [])
 
 module _ (packages : Packages) (o : ℕ) (known : List QualifiedName) where
