@@ -26,7 +26,7 @@ use Rattle.model_text_laws.proofs.Read.{follows_more, interned_append}
 use Rattle.model_text_laws.proofs.Sound.{Sound, Settled, Delivers, IsSpelled, In, deliver_sound, gap_sound, settled_more, settled_not_at, room_ok, open_sound, quote_sound, backquote_sound, close_sound, dot_sound}
 use Rattle.model_text_laws.proofs.Holding.{TokenSoFar, StringSoFar, BlockSoFar, Lexing, Situation, Holds, Finds, Comes, stays, lexeme_comes, gap_comes, next_first, gap_before, whole_comes}
 
-both : (s t : Bool) → (s && t) ≡ true → (s ≡ true) × (t ≡ true)
+pub both : (s t : Bool) → (s && t) ≡ true → (s ≡ true) × (t ≡ true)
 both true t h = (refl, h)
 both false t h = cc
 

@@ -11,3 +11,4 @@ pub mod Back
 pub mod Sound
 pub mod Holding
 pub mod Bytes
+pub mod Inner
