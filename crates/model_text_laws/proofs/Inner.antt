@@ -1,5 +1,5 @@
 -- What one byte more leads to in bars, strings and comments, as spelled.
-use Rattle.std.specs.Prelude.{◌≡◌, ℕ, ◌+◌, ◌-◌, ◌<◌, ◌≤◌, ◌==◌, nat_lt, nat_le, List, [], ◌∷◌, ◌++◌, length, map, Bool, true, false, ◌&&◌, ◌||◌, not, if◌then◌else◌, refl, Option, Some, None, ◌⊎◌, ℤ}
+use Rattle.std.specs.Prelude.{zero, suc, ◌≡◌, ℕ, ◌+◌, ◌-◌, ◌<◌, ◌≤◌, ◌==◌, nat_lt, nat_le, List, [], ◌∷◌, ◌++◌, length, map, Bool, true, false, ◌&&◌, ◌||◌, not, if◌then◌else◌, refl, Option, Some, None, ◌⊎◌, ℤ}
 use Rattle.std.specs.Char.{to_ascii_uppercase}
 use Rattle.std.specs.List.{list_all, list_any}
 use Rattle.std.specs.Str.{bytes_eq}
@@ -152,3 +152,107 @@ module _ (packages : Packages) (o : ℕ) (known : List QualifiedName) where
     go false e =
         stays packages o known ps Line Line held [] at first b symbols xs r.gap r.before r.part r.apart r.names r.place r.input none r.split r.sound follows r.settled
         ((raw ++ b ∷ []), pushed, line_push raw b r.lexing.2 e, refl) refl
+
+  push_block : (part raw : List ℕ) (b : ℕ) → part ≡ 35 ∷ 124 ∷ raw → part ++ b ∷ [] ≡ 35 ∷ 124 ∷ (raw ++ b ∷ [])
+  push_block part raw b e = ap (λ (y : List ℕ). y ++ b ∷ []) e
+
+  no_mark : (b : ℕ) (rest : List ℕ) → (b == 35) ≡ false → (b == 124) ≡ false → marks_block b rest ≡ false
+  no_mark b [] e f = refl
+  no_mark b (c ∷ cs) e f = rw (e, f) refl
+
+  -- a byte in block comments, which may be half of a mark
+  in_block_comes : (i : Inside) (n b : ℕ) (raw : List ℕ) (ps : List Part) (held : List ℕ) (at first : ℕ) (symbols : List QualifiedName) (xs : List ℕ) (r : Ready packages o known b ps i held at first symbols xs)
+      → r.part ++ b ∷ [] ≡ 35 ∷ 124 ∷ (raw ++ b ∷ []) → MarkSoFar b n raw → Comes packages o known xs b (goes_on (in_block n b) [] (st ps i held at first symbols))
+  in_block_comes i n b raw ps held at first symbols xs r e t = go (b == 35) refl (b == 124) refl where
+    follows : Follows r.apart (r.part ++ b ∷ [])
+    follows = follows_push packages o known r.apart r.part b r.follows
+
+    here : (j : Inside) → is_free j ≡ false → Lexing j [] (r.part ++ b ∷ []) → Comes packages o known xs b (goes_on j [] (st ps i held at first symbols))
+    here j f l = stays packages o known ps i j held [] at first b symbols xs r.gap r.before r.part r.apart r.names r.place r.input none r.split r.sound follows r.settled l (rw f refl)
+
+    go : (x : Bool) → (b == 35) ≡ x → (y : Bool) → (b == 124) ≡ y → Comes packages o known xs b (goes_on (if x then BlockHash n else (if y then BlockBar n else Block n)) [] (st ps i held at first symbols))
+    go true f y g =
+        let q : b ≡ 35 = eqb-true b 35 f in
+        let P : ℕ → Type 0 = λ c. MarkSoFar c n raw in
+        here (BlockHash n) refl (raw, (e ∙ ap (λ (x : ℕ). 35 ∷ 124 ∷ (raw ++ x ∷ [])) q), subst P q t, refl)
+    go false f true g =
+        let q : b ≡ 124 = eqb-true b 124 g in
+        let P : ℕ → Type 0 = λ c. MarkSoFar c n raw in
+        here (BlockBar n) refl (raw, (e ∙ ap (λ (x : ℕ). 35 ∷ 124 ∷ (raw ++ x ∷ [])) q), subst P q t, refl)
+    go false f false g =
+        here (Block n) refl ((raw ++ b ∷ []), e, (t.0, t.1, (λ rest k.
+            subst (λ (y : List ℕ). spelling.Block 0 y) (sym (append_assoc raw (b ∷ []) rest)) (t.2 rest (spelling.byte t.0 b rest (no_mark b rest f g) k)))), refl)
+
+  block_comes : (n b : ℕ) (ps : List Part) (held : List ℕ) (at first : ℕ) (symbols : List QualifiedName) (xs : List ℕ) → Ready packages o known b ps (Block n) held at first symbols xs
+      → Comes packages o known xs b (goes_on (in_block n b) [] (st ps (Block n) held at first symbols))
+  block_comes n b ps held at first symbols xs r =
+      let t = r.lexing.2 in
+      in_block_comes (Block n) n b r.lexing.0 ps held at first symbols xs r (push_block r.part r.lexing.0 b r.lexing.1) (t.0, t.1, (λ rest k. t.2 (b ∷ rest) k))
+
+  -- a byte that makes no mark of the half before it
+  past_half : (c n b : ℕ) (raw : List ℕ) → is_block_mark c b ≡ false → MarkSoFar c n raw → MarkSoFar b n (raw ++ c ∷ [])
+  past_half c n b raw e t = (t.0, t.1, (λ rest k. subst (λ (y : List ℕ). spelling.Block 0 y) (sym (append_assoc raw (c ∷ []) (b ∷ rest))) (t.2 (b ∷ rest) (spelling.byte t.0 c (b ∷ rest) e k))))
+
+  two_more : (raw rest : List ℕ) (b c : ℕ) → raw ++ b ∷ c ∷ rest ≡ ((raw ++ b ∷ []) ++ c ∷ []) ++ rest
+  two_more raw rest b c = sym (append_assoc (raw ++ b ∷ []) (c ∷ []) rest ∙ append_assoc raw (b ∷ []) (c ∷ rest))
+
+  block_hash_comes : (n b : ℕ) (ps : List Part) (held : List ℕ) (at first : ℕ) (symbols : List QualifiedName) (xs : List ℕ) → Ready packages o known b ps (BlockHash n) held at first symbols xs
+      → Comes packages o known xs b (goes_on (if is_bar b then Block (n + 1) else in_block n b) [] (st ps (BlockHash n) held at first symbols))
+  block_hash_comes n b ps held at first symbols xs r = go (is_bar b) refl where
+    raw : List ℕ
+    raw = r.lexing.0
+
+    pushed : r.part ++ b ∷ [] ≡ 35 ∷ 124 ∷ ((raw ++ 35 ∷ []) ++ b ∷ [])
+    pushed = push_block r.part (raw ++ 35 ∷ []) b r.lexing.1
+
+    go : (x : Bool) → is_bar b ≡ x → Comes packages o known xs b (goes_on (if x then Block (n + 1) else in_block n b) [] (st ps (BlockHash n) held at first symbols))
+    go true e =
+        let t = r.lexing.2 in
+        let q : b ≡ 124 = eqb-true b 124 e in
+        let part_is = pushed ∙ ap (λ (x : ℕ). 35 ∷ 124 ∷ ((raw ++ 35 ∷ []) ++ x ∷ [])) q in
+        stays packages o known ps (BlockHash n) (Block (n + 1)) held [] at first b symbols xs r.gap r.before r.part r.apart r.names r.place r.input none r.split r.sound
+        (follows_push packages o known r.apart r.part b r.follows) r.settled
+        (((raw ++ 35 ∷ []) ++ 124 ∷ []), part_is, ((t.0 + 1), ap (λ x. x + 1) t.1, (λ rest k.
+            subst (λ (y : List ℕ). spelling.Block 0 y) (two_more raw rest 35 124) (t.2 (124 ∷ rest) (spelling.enter t.0 rest k)))), refl) refl
+    go false e =
+        in_block_comes (BlockHash n) n b (raw ++ 35 ∷ []) ps held at first symbols xs r pushed (past_half 35 n b raw (rw e refl) r.lexing.2)
+
+  block_bar_comes : (n b : ℕ) (ps : List Part) (held : List ℕ) (at first : ℕ) (symbols : List QualifiedName) (xs : List ℕ) → Ready packages o known b ps (BlockBar n) held at first symbols xs
+      → Comes packages o known xs b (goes_on (if b == 35 then block_ended n else in_block n b) [] (st ps (BlockBar n) held at first symbols))
+  block_bar_comes n b ps held at first symbols xs r = go (b == 35) refl where
+    raw : List ℕ
+    raw = r.lexing.0
+
+    follows : Follows r.apart (r.part ++ b ∷ [])
+    follows = follows_push packages o known r.apart r.part b r.follows
+
+    pushed : r.part ++ b ∷ [] ≡ 35 ∷ 124 ∷ ((raw ++ 124 ∷ []) ++ b ∷ [])
+    pushed = push_block r.part (raw ++ 124 ∷ []) b r.lexing.1
+
+    ends : (m : ℕ) → n ≡ m + 1 → ((rest : List ℕ) → spelling.Block m (124 ∷ rest) → spelling.Block 0 (raw ++ 124 ∷ rest)) → b ≡ 35
+        → Comes packages o known xs b (goes_on (block_ended n) [] (st ps (BlockBar n) held at first symbols))
+    ends zero e t q =
+        let last : block_ended n ≡ Free = ap block_ended e in
+        let k0 : spelling.Block 0 (raw ++ 124 ∷ 35 ∷ []) = t (35 ∷ []) spelling.end in
+        let g0 : Gap (35 ∷ 124 ∷ ((raw ++ 124 ∷ 35 ∷ []) ++ [])) = spelling.block (raw ++ 124 ∷ 35 ∷ []) [] k0 spelling.nothing in
+        let part_is : 35 ∷ 124 ∷ ((raw ++ 124 ∷ 35 ∷ []) ++ []) ≡ r.part ++ b ∷ [] =
+        ap (λ (y : List ℕ). 35 ∷ 124 ∷ y) (append-nil (raw ++ 124 ∷ 35 ∷ []) ∙ (two_more raw [] 124 35 ∙ append-nil ((raw ++ 124 ∷ []) ++ 35 ∷ [])))
+        ∙ (ap (λ (x : ℕ). 35 ∷ 124 ∷ ((raw ++ 124 ∷ []) ++ x ∷ [])) (sym q) ∙ sym pushed) in
+        subst (λ (j : Inside). Comes packages o known xs b (goes_on j [] (st ps (BlockBar n) held at first symbols))) (sym last)
+        (gap_comes packages o known ps (BlockBar n) held at first b symbols xs r.gap r.before r.part r.apart r.names r.place r.input r.split r.sound follows r.settled (subst Gap part_is g0))
+    ends (suc m) e t q =
+        let more : nat_le n 1 ≡ false = grind (arith, nat_tests) in
+        let less : n - 1 ≡ m + 1 = omega (arith, e) in
+        let one : m + 1 ≡ suc m = omega arith in
+        let last : block_ended n ≡ Block (n - 1) = rw more refl in
+        let part_is = pushed ∙ ap (λ (x : ℕ). 35 ∷ 124 ∷ ((raw ++ 124 ∷ []) ++ x ∷ [])) q in
+        subst (λ (j : Inside). Comes packages o known xs b (goes_on j [] (st ps (BlockBar n) held at first symbols))) (sym last)
+        (stays packages o known ps (BlockBar n) (Block (n - 1)) held [] at first b symbols xs r.gap r.before r.part r.apart r.names r.place r.input none r.split r.sound follows r.settled
+            (((raw ++ 124 ∷ []) ++ 35 ∷ []), part_is, (m, less, (λ rest k.
+                subst (λ (y : List ℕ). spelling.Block 0 y) (two_more raw rest 124 35)
+                (t (35 ∷ rest) (subst (λ (x : ℕ). spelling.Block x (124 ∷ 35 ∷ rest)) one (spelling.leave m rest k))))), refl) refl)
+
+    go : (x : Bool) → (b == 35) ≡ x → Comes packages o known xs b (goes_on (if x then block_ended n else in_block n b) [] (st ps (BlockBar n) held at first symbols))
+    go true e = let t = r.lexing.2 in ends t.0 t.1 t.2 (eqb-true b 35 e)
+    go false e =
+        in_block_comes (BlockBar n) n b (raw ++ 124 ∷ []) ps held at first symbols xs r pushed (past_half 124 n b raw (rw e refl) r.lexing.2)
