@@ -46,7 +46,7 @@ module _ (packages : Packages) (o : ℕ) (known : List QualifiedName) where
         cc
     go false e = refl
 
-  bars_comes : (b : ℕ) (ps : List Part) (held : List ℕ) (at first : ℕ) (symbols : List QualifiedName) (xs : List ℕ) → Ready packages o known b ps Bars held at first symbols xs
+  pub bars_comes : (b : ℕ) (ps : List Part) (held : List ℕ) (at first : ℕ) (symbols : List QualifiedName) (xs : List ℕ) → Ready packages o known b ps Bars held at first symbols xs
       → Comes packages o known xs b (bars_byte b (st ps Bars held at first symbols))
   bars_comes b ps held at first symbols xs r = go (is_bar b) refl (b == 92) refl where
     n : (bytes_eq held (35 ∷ []) && is_bar b) ≡ false
@@ -57,7 +57,7 @@ module _ (packages : Packages) (o : ℕ) (known : List QualifiedName) where
     go false e true f = kept_comes packages o known Between Escaped Bars BarsEscape b ps held at first symbols xs r refl (escape_to packages o known) (λ h part x. x) (λ rest. rw (e, f) refl) n
     go false e false f = kept_comes packages o known Between Between Bars Bars b ps held at first symbols xs r refl (bars_to packages o known) (λ h part x. x) (λ rest. rw (e, f) refl) n
 
-  escape_comes : (b : ℕ) (ps : List Part) (held : List ℕ) (at first : ℕ) (symbols : List QualifiedName) (xs : List ℕ) → Ready packages o known b ps BarsEscape held at first symbols xs
+  pub escape_comes : (b : ℕ) (ps : List Part) (held : List ℕ) (at first : ℕ) (symbols : List QualifiedName) (xs : List ℕ) → Ready packages o known b ps BarsEscape held at first symbols xs
       → Comes packages o known xs b (goes_on Bars (held ++ b ∷ []) (st ps BarsEscape held at first symbols))
   escape_comes b ps held at first symbols xs r =
       kept_comes packages o known Escaped Between BarsEscape Bars b ps held at first symbols xs r refl (bars_to packages o known) (λ h part x. x) (λ rest. refl) (no_hash Escaped held (is_bar b) refl r.lexing.1)
@@ -67,7 +67,7 @@ module _ (packages : Packages) (o : ℕ) (known : List QualifiedName) where
   push_cons : (m : ℕ) (part raw : List ℕ) (b : ℕ) → part ≡ m ∷ raw → part ++ b ∷ [] ≡ m ∷ (raw ++ b ∷ [])
   push_cons m part raw b e = ap (λ (y : List ℕ). y ++ b ∷ []) e
 
-  string_comes : (b : ℕ) (ps : List Part) (held : List ℕ) (at first : ℕ) (symbols : List QualifiedName) (xs : List ℕ) → Ready packages o known b ps String held at first symbols xs
+  pub string_comes : (b : ℕ) (ps : List Part) (held : List ℕ) (at first : ℕ) (symbols : List QualifiedName) (xs : List ℕ) → Ready packages o known b ps String held at first symbols xs
       → Comes packages o known xs b (string_byte b (st ps String held at first symbols))
   string_comes b ps held at first symbols xs r = go (b == 34) refl (b == 92) refl where
     s : State
@@ -111,7 +111,7 @@ module _ (packages : Packages) (o : ℕ) (known : List QualifiedName) where
             (subst (λ (y : List ℕ). Quoted (raw ++ b ∷ rest) y) (sym (append_assoc held (b ∷ []) more)) (r.lexing.2 (b ∷ rest) (b ∷ more) (spelling.byte b rest more e f q)))))
         (and_false (is_empty (held ++ b ∷ [])))
 
-  string_escape_comes : (b : ℕ) (ps : List Part) (held : List ℕ) (at first : ℕ) (symbols : List QualifiedName) (xs : List ℕ) → Ready packages o known b ps StringEscape held at first symbols xs
+  pub string_escape_comes : (b : ℕ) (ps : List Part) (held : List ℕ) (at first : ℕ) (symbols : List QualifiedName) (xs : List ℕ) → Ready packages o known b ps StringEscape held at first symbols xs
       → Comes packages o known xs b (goes_on String (held ++ b ∷ []) (st ps StringEscape held at first symbols))
   string_escape_comes b ps held at first symbols xs r =
       let raw = r.lexing.0 in
@@ -131,7 +131,7 @@ module _ (packages : Packages) (o : ℕ) (known : List QualifiedName) where
   line_push [] b h e = rw e refl
   line_push (c ∷ bs) b h e = let q = both (not (c == 10)) (is_line bs) h in rw (q.0, line_push bs b q.1 e) refl
 
-  line_comes : (b : ℕ) (ps : List Part) (held : List ℕ) (at first : ℕ) (symbols : List QualifiedName) (xs : List ℕ) → Ready packages o known b ps Line held at first symbols xs
+  pub line_comes : (b : ℕ) (ps : List Part) (held : List ℕ) (at first : ℕ) (symbols : List QualifiedName) (xs : List ℕ) → Ready packages o known b ps Line held at first symbols xs
       → Comes packages o known xs b (goes_on (if b == 10 then Free else Line) [] (st ps Line held at first symbols))
   line_comes b ps held at first symbols xs r = go (b == 10) refl where
     raw : List ℕ
@@ -183,7 +183,7 @@ module _ (packages : Packages) (o : ℕ) (known : List QualifiedName) where
         here (Block n) refl ((raw ++ b ∷ []), e, (t.0, t.1, (λ rest k.
             subst (λ (y : List ℕ). spelling.Block 0 y) (sym (append_assoc raw (b ∷ []) rest)) (t.2 rest (spelling.byte t.0 b rest (no_mark b rest f g) k)))), refl)
 
-  block_comes : (n b : ℕ) (ps : List Part) (held : List ℕ) (at first : ℕ) (symbols : List QualifiedName) (xs : List ℕ) → Ready packages o known b ps (Block n) held at first symbols xs
+  pub block_comes : (n b : ℕ) (ps : List Part) (held : List ℕ) (at first : ℕ) (symbols : List QualifiedName) (xs : List ℕ) → Ready packages o known b ps (Block n) held at first symbols xs
       → Comes packages o known xs b (goes_on (in_block n b) [] (st ps (Block n) held at first symbols))
   block_comes n b ps held at first symbols xs r =
       let t = r.lexing.2 in
@@ -196,7 +196,7 @@ module _ (packages : Packages) (o : ℕ) (known : List QualifiedName) where
   two_more : (raw rest : List ℕ) (b c : ℕ) → raw ++ b ∷ c ∷ rest ≡ ((raw ++ b ∷ []) ++ c ∷ []) ++ rest
   two_more raw rest b c = sym (append_assoc (raw ++ b ∷ []) (c ∷ []) rest ∙ append_assoc raw (b ∷ []) (c ∷ rest))
 
-  block_hash_comes : (n b : ℕ) (ps : List Part) (held : List ℕ) (at first : ℕ) (symbols : List QualifiedName) (xs : List ℕ) → Ready packages o known b ps (BlockHash n) held at first symbols xs
+  pub block_hash_comes : (n b : ℕ) (ps : List Part) (held : List ℕ) (at first : ℕ) (symbols : List QualifiedName) (xs : List ℕ) → Ready packages o known b ps (BlockHash n) held at first symbols xs
       → Comes packages o known xs b (goes_on (if is_bar b then Block (n + 1) else in_block n b) [] (st ps (BlockHash n) held at first symbols))
   block_hash_comes n b ps held at first symbols xs r = go (is_bar b) refl where
     raw : List ℕ
@@ -217,7 +217,7 @@ module _ (packages : Packages) (o : ℕ) (known : List QualifiedName) where
     go false e =
         in_block_comes (BlockHash n) n b (raw ++ 35 ∷ []) ps held at first symbols xs r pushed (past_half 35 n b raw (rw e refl) r.lexing.2)
 
-  block_bar_comes : (n b : ℕ) (ps : List Part) (held : List ℕ) (at first : ℕ) (symbols : List QualifiedName) (xs : List ℕ) → Ready packages o known b ps (BlockBar n) held at first symbols xs
+  pub block_bar_comes : (n b : ℕ) (ps : List Part) (held : List ℕ) (at first : ℕ) (symbols : List QualifiedName) (xs : List ℕ) → Ready packages o known b ps (BlockBar n) held at first symbols xs
       → Comes packages o known xs b (goes_on (if b == 35 then block_ended n else in_block n b) [] (st ps (BlockBar n) held at first symbols))
   block_bar_comes n b ps held at first symbols xs r = go (b == 35) refl where
     raw : List ℕ

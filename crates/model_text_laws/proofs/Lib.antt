@@ -12,3 +12,4 @@ pub mod Sound
 pub mod Holding
 pub mod Bytes
 pub mod Inner
+pub mod Runs
