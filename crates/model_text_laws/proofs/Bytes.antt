@@ -1,30 +1,29 @@
 -- What one byte more leads to, as spelled.
-use Rattle.std.specs.Prelude.{◌≡◌, ℕ, ◌+◌, ◌-◌, ◌<◌, ◌≤◌, ◌==◌, nat_lt, nat_le, List, [], ◌∷◌, ◌++◌, length, map, Bool, true, false, ◌&&◌, ◌||◌, not, if◌then◌else◌, refl, Option, Some, None, ◌⊎◌, ℤ}
+use Rattle.std.specs.Prelude.{◌≡◌, ℕ, ◌+◌, ◌-◌, ◌<◌, ◌≤◌, ◌==◌, nat_le, List, [], ◌∷◌, ◌++◌, length, map, Bool, true, false, ◌&&◌, ◌||◌, not, if◌then◌else◌, refl, Option, Some, None, ℤ}
 use Rattle.std.specs.Char.{to_ascii_uppercase}
-use Rattle.std.specs.List.{list_all, list_any}
+use Rattle.std.specs.List.{list_any}
 use Rattle.std.specs.Str.{bytes_eq}
-use Rattle.std.proofs.Common.{sym, ap, ◌∙◌, arith, length-append, subst, inl, inr}
+use Rattle.std.proofs.Common.{sym, ap, ◌∙◌, arith, subst, inl, inr}
 use Rattle.std.proofs.lemmas.List.{append_assoc, append-nil, length_push}
-use Rattle.std.proofs.lemmas.Bool.{ltb-true, leb-true}
+use Rattle.std.proofs.lemmas.Bool.{leb-true}
 use Rattle.std.proofs.lemmas.Bool.Decides.{nat_tests, eqb_tells}
 use Rattle.std.proofs.lemmas.Slice.Eq.{bytes_eq-Decides}
-use Rattle.model_objects.specs.Object.{Integer, Symbol, Text, fits_128, weight, max_weight}
+use Rattle.model_objects.specs.Object.{Integer, Symbol, fits_128, weight, max_weight}
 use Rattle.model_symbols.specs.Symbols.{QualifiedName, interned, all_interned, is_one_too_many}
 use Rattle.model_text.specs.Token.{Form, Packages, is_empty, is_bar, is_blank, is_graphic, ends_token, Place, Outside, Between, Escaped, Token, Number, Name, Wrong, token_of, with_room, Written, Plainly, Within, Wrongly, written, written_token, numbered_token, nameable, letters, number_token, other_token, bare_token, integer_of, is_ratio, is_float, are_dots}
 use Rattle.model_text.specs.Token as token
 use Rattle.model_text.specs.Backquote.{Template, Constant, Plain, item_of}
-use Rattle.model_text.specs.Parts.{Lexeme, Atom, Open, Close, Dot, Quote, Backquote, Part, Put, Parts, Whole, Bad, full_dot, unless_full, in_backquote, delivered, put}
-use Rattle.model_text.specs.Parts as lexeme
-use Rattle.model_text.specs.Next.{Inside, Free, Bars, BarsEscape, String, StringEscape, Line, Block, BlockHash, BlockBar, AfterComma, State, Step, Goes, Gives, Fails, after, is_idle, is_free, is_comment, first_of, has_room, whole, counted, goes_on, marked, placed, token_put, token_ended, mark, letter, is_open_question, comma_begun, free_byte, most_bytes, most_input}
+use Rattle.model_text.specs.Parts.{Open, Close, Dot, Quote, Backquote, Part, Put, Parts, Whole, Bad, full_dot, unless_full, in_backquote, delivered, put}
+use Rattle.model_text.specs.Next.{Inside, Free, Bars, BarsEscape, String, Line, Block, AfterComma, State, Step, Goes, Gives, Fails, after, is_comment, first_of, counted, goes_on, placed, token_put, token_ended, mark, letter, is_open_question, comma_begun, free_byte, most_bytes, most_input}
 use Rattle.model_text.specs.Spelling.{Gap, AForm, IsToken, Follows, begins_apart, goes_on_as_token, begins_block, is_line, Quoted, begins_with_at}
 use Rattle.model_text.specs.Spelling as spelling
 use Rattle.model_text.specs.declared.TextCause.{TextCause}
-use Rattle.model_text.specs.declared.TextCause.TheVariants.{TooLarge, FormTooLong, BadDot, CommaOutside, BadByte, BadToken, IntegerTooWide, TooManySymbols}
+use Rattle.model_text.specs.declared.TextCause.TheVariants.{TooLarge, BadByte, BadToken, IntegerTooWide, TooManySymbols}
 use Rattle.model_text_laws.specs.Laws.{have_room}
 use Rattle.model_text_laws.proofs.Going.{st, free, first_token}
 use Rattle.model_text_laws.proofs.Read.{follows_more, interned_append}
-use Rattle.model_text_laws.proofs.Sound.{Sound, Settled, Delivers, IsSpelled, In, deliver_sound, gap_sound, settled_more, settled_not_at, room_ok, open_sound, quote_sound, backquote_sound, close_sound, dot_sound}
-use Rattle.model_text_laws.proofs.Holding.{TokenSoFar, StringSoFar, BlockSoFar, Lexing, Situation, Holds, Finds, Comes, stays, lexeme_comes, gap_comes, next_first, gap_before, whole_comes}
+use Rattle.model_text_laws.proofs.Sound.{Sound, Settled, Delivers, In, deliver_sound, settled_more, settled_not_at, room_ok, open_sound, quote_sound, backquote_sound, close_sound, dot_sound}
+use Rattle.model_text_laws.proofs.Holding.{TokenSoFar, Lexing, Situation, Holds, Comes, stays, lexeme_comes, gap_comes, next_first, gap_before}
 
 pub both : (s t : Bool) → (s && t) ≡ true → (s ≡ true) × (t ≡ true)
 both true t h = (refl, h)
@@ -108,33 +107,33 @@ module _ (packages : Packages) (o : ℕ) (known : List QualifiedName) where
           ]
         ]
       ] where
-    follows : (k : Bool) → Follows k (59 ∷ [])
-    follows true = refl
-    follows false = tt
+        follows : (k : Bool) → Follows k (59 ∷ [])
+        follows true = refl
+        follows false = tt
 
-    follows_end : (k : Bool) → Follows k (b ∷ [])
-    follows_end true = e
-    follows_end false = tt
+        follows_end : (k : Bool) → Follows k (b ∷ [])
+        follows_end true = e
+        follows_end false = tt
 
-    follows_quote : (k : Bool) → Follows k (34 ∷ [])
-    follows_quote true = refl
-    follows_quote false = tt
+        follows_quote : (k : Bool) → Follows k (34 ∷ [])
+        follows_quote true = refl
+        follows_quote false = tt
 
-    mark_else : (b : ℕ) (s : State) → (b == 40) ≡ false → (b == 41) ≡ false → (b == 39) ≡ false → (b == 96) ≡ false → (b == 44) ≡ false → (b == 34) ≡ false → (b == 59) ≡ false → mark b s ≡ goes_on Free [] s
-    mark_else b s h40 h41 h39 h96 h44 h34 h59 = rw (h40, h41, h39, h96, h44, h34, h59) refl
+        mark_else : (b : ℕ) (s : State) → (b == 40) ≡ false → (b == 41) ≡ false → (b == 39) ≡ false → (b == 96) ≡ false → (b == 44) ≡ false → (b == 34) ≡ false → (b == 59) ≡ false → mark b s ≡ goes_on Free [] s
+        mark_else b s h40 h41 h39 h96 h44 h34 h59 = rw (h40, h41, h39, h96, h44, h34, h59) refl
 
-    or_false : (x : Bool) → (x || false) ≡ true → x ≡ true
-    or_false true h = refl
-    or_false false h = cc
+        or_false : (x : Bool) → (x || false) ≡ true → x ≡ true
+        or_false true h = refl
+        or_false false h = cc
 
-    blank_else : (b : ℕ) → ends_token b ≡ true → (b == 40) ≡ false → (b == 41) ≡ false → (b == 39) ≡ false → (b == 96) ≡ false → (b == 44) ≡ false → (b == 34) ≡ false → (b == 59) ≡ false → is_blank b ≡ true
-    blank_else b e h40 h41 h39 h96 h44 h34 h59 = or_false (is_blank b) (rw (h40, h41, h39, h96, h44, h34, h59) at e)
+        blank_else : (b : ℕ) → ends_token b ≡ true → (b == 40) ≡ false → (b == 41) ≡ false → (b == 39) ≡ false → (b == 96) ≡ false → (b == 44) ≡ false → (b == 34) ≡ false → (b == 59) ≡ false → is_blank b ≡ true
+        blank_else b e h40 h41 h39 h96 h44 h34 h59 = or_false (is_blank b) (rw (h40, h41, h39, h96, h44, h34, h59) at e)
 
-    string_begun : Settled packages gap ps xs c ns sd (34 ∷ []) → Comes packages o known xs 34 (counted (unless_full (full_dot ps) (Parts ps)) String [] at (free ps at first symbols))
-    string_begun w = go (full_dot ps) refl where
-      go : (d : Option ℕ) → full_dot ps ≡ d → Comes packages o known xs 34 (counted (unless_full d (Parts ps)) String [] at (free ps at first symbols))
-      go None f = stays packages o known ps Free String [] [] at first 34 symbols xs gap xs [] c ns m l (λ z. refl) (sym (append-nil xs)) sd (follows_quote c) w ([], refl, (λ rest more q. q)) refl
-      go (Some n) f = tt
+        string_begun : Settled packages gap ps xs c ns sd (34 ∷ []) → Comes packages o known xs 34 (counted (unless_full (full_dot ps) (Parts ps)) String [] at (free ps at first symbols))
+        string_begun w = go (full_dot ps) refl where
+          go : (d : Option ℕ) → full_dot ps ≡ d → Comes packages o known xs 34 (counted (unless_full d (Parts ps)) String [] at (free ps at first symbols))
+          go None f = stays packages o known ps Free String [] [] at first 34 symbols xs gap xs [] c ns m l (λ z. refl) (sym (append-nil xs)) sd (follows_quote c) w ([], refl, (λ rest more q. q)) refl
+          go (Some n) f = tt
 
   -- ---- the end of a token
 
@@ -189,23 +188,27 @@ module _ (packages : Packages) (o : ℕ) (known : List QualifiedName) where
       let f = next_first packages o known qs Free [] at first symbols2 gap xs m.offset m.begins (λ h. gap_before packages o known qs gap xs true ns d.0 (first_true (is_empty qs) h)) in
       mark_comes b qs at first symbols2 xs gap true ns e (record { blank = m.blank; offset = m.offset; begins = f; knows = m.knows; room = m.room }) l d.0
       (settled_more packages gap qs xs true ns d.0 [] (b ∷ []) d.1) where
-    first_true : (x : Bool) → (x && true) ≡ true → x ≡ true
-    first_true true h = refl
-    first_true false h = cc
+        first_true : (x : Bool) → (x && true) ≡ true → x ≡ true
+        first_true true h = refl
+        first_true false h = cc
   placed_comes (Whole f) b ps held at first symbols symbols2 xs gap ns e m l k d = go (nat_le (weight f) max_weight) refl where
     go : (x : Bool) → nat_le (weight f) max_weight ≡ x → Comes packages o known xs b (after (if x then Gives f at symbols2 else Fails TooLarge first) (mark b))
-    go true w = inl (record {
-      gap = gap;
-      names = ns;
-      blank = m.blank;
-      spelled = d;
-      ends = m.offset;
-      knows = m.knows;
-      room = m.room;
-      light = leb-true (weight f) max_weight w;
-      short = omega (arith, k, m.offset, m.begins);
-      input = omega (arith, l);
-    }, e, l)
+    go true w = inl (
+      record {
+        gap = gap;
+        names = ns;
+        blank = m.blank;
+        spelled = d;
+        ends = m.offset;
+        knows = m.knows;
+        room = m.room;
+        light = leb-true (weight f) max_weight w;
+        short = omega (arith, k, m.offset, m.begins);
+        input = omega (arith, l);
+      },
+      e,
+      l,
+    )
     go false w = tt
   placed_comes (Bad c n) b ps held at first symbols symbols2 xs gap ns e m l k d = tt
 
@@ -371,7 +374,7 @@ module _ (packages : Packages) (o : ℕ) (known : List QualifiedName) where
 
     go : (x : Bool) → (bytes_eq held (35 ∷ []) && is_bar b) ≡ x
         → Comes packages o known xs b (if x then goes_on (Block 1) [] s
-            else (if is_open_question held b then goes_on Free (held ++ b ∷ []) s else counted (unless_full (full_dot ps) (Parts ps)) (if is_bar b then Bars else Free) (held ++ b ∷ []) at s))
+        else (if is_open_question held b then goes_on Free (held ++ b ∷ []) s else counted (unless_full (full_dot ps) (Parts ps)) (if is_bar b then Bars else Free) (held ++ b ∷ []) at s))
     go true h = block h
     go false h = question h (is_open_question held b) refl
 

@@ -1,27 +1,20 @@
 -- What the bytes so far say of the state.
-use Rattle.std.specs.Prelude.{◌≡◌, ℕ, ◌+◌, ◌-◌, ◌<◌, ◌≤◌, ◌==◌, nat_lt, nat_le, List, [], ◌∷◌, ◌++◌, length, Bool, true, false, ◌&&◌, ◌||◌, not, if◌then◌else◌, refl, Option, Some, None, ◌⊎◌, ℤ}
-use Rattle.std.specs.List.{list_all}
-use Rattle.std.specs.Str.{bytes_eq}
-use Rattle.std.proofs.Common.{sym, ap, ◌∙◌, arith, length-append, subst, inl, inr}
+use Rattle.std.specs.Prelude.{◌≡◌, ℕ, ◌+◌, ◌-◌, ◌<◌, ◌≤◌, nat_lt, nat_le, List, [], ◌∷◌, ◌++◌, length, Bool, true, false, ◌&&◌, ◌||◌, if◌then◌else◌, refl, ◌⊎◌}
+use Rattle.std.proofs.Common.{sym, ap, ◌∙◌, arith, subst, inr}
 use Rattle.std.proofs.lemmas.List.{append_assoc, append-nil, length_push}
 use Rattle.std.proofs.lemmas.Bool.{ltb-true, leb-true}
-use Rattle.std.proofs.lemmas.Bool.Decides.{nat_tests, eqb_tells}
-use Rattle.model_objects.specs.Object.{Integer, Symbol, Text, weight, max_weight}
-use Rattle.model_symbols.specs.Symbols.{QualifiedName, interned, all_interned, is_one_too_many}
-use Rattle.model_text.specs.Token.{Form, Packages, is_empty, is_bar, is_blank, is_graphic, ends_token, Place, Outside, Between, Escaped, Token, Number, Name, Wrong, token_of, with_room}
-use Rattle.model_text.specs.Token as token
-use Rattle.model_text.specs.Backquote.{Template, Constant, Plain}
-use Rattle.model_text.specs.Parts.{Lexeme, Atom, Open, Close, Dot, Quote, Backquote, Part, Put, Parts, Whole, Bad, full_dot, unless_full, in_backquote, delivered, put}
-use Rattle.model_text.specs.Parts as lexeme
-use Rattle.model_text.specs.Next.{Inside, Free, Bars, BarsEscape, String, StringEscape, Line, Block, BlockHash, BlockBar, AfterComma, State, Step, Goes, Gives, Fails, after, is_idle, is_free, is_comment, first_of, has_room, whole, counted, goes_on, marked, placed, token_put, most_bytes, most_input}
+use Rattle.std.proofs.lemmas.Bool.Decides.{nat_tests}
+use Rattle.model_objects.specs.Object.{weight, max_weight}
+use Rattle.model_symbols.specs.Symbols.{QualifiedName, all_interned}
+use Rattle.model_text.specs.Token.{Form, Packages, is_empty, ends_token, Place, Outside, Between, Escaped}
+use Rattle.model_text.specs.Parts.{Part, Put, Parts, Whole, Bad}
+use Rattle.model_text.specs.Next.{Inside, Free, Bars, BarsEscape, String, StringEscape, Line, Block, BlockHash, BlockBar, AfterComma, State, Step, Goes, Gives, Fails, is_idle, is_free, is_comment, first_of, has_room, whole, counted, goes_on, most_bytes, most_input}
 use Rattle.model_text.specs.Spelling.{Gap, AForm, IsToken, Follows, begins_apart, goes_on_as_token, begins_block, is_line, Quoted, begins_with_at}
 use Rattle.model_text.specs.Spelling as spelling
 use Rattle.model_text.specs.declared.TextCause.TheVariants.{TooLarge, FormTooLong}
 use Rattle.model_text_laws.specs.Laws.{have_room}
-use Rattle.model_text_laws.proofs.Going.{st, free}
-use Rattle.model_text_laws.proofs.Read.{follows_more, interned_append}
-use Rattle.model_text_laws.proofs.Sound.{Sound, Settled, Delivers, IsSpelled, In, deliver_sound, gap_sound, gap_append, settled_more, settled_not_at, settled_gap, room_ok}
-use Rattle.model_text_laws.proofs.Tokens.{inside_of}
+use Rattle.model_text_laws.proofs.Going.{st}
+use Rattle.model_text_laws.proofs.Sound.{Sound, Settled, Delivers, IsSpelled, gap_sound, gap_append, settled_gap}
 
 -- the bytes of a token so far
 abbrev pub TokenSoFar : Place → List ℕ → Type 0
@@ -115,10 +108,10 @@ module _ (packages : Packages) (o : ℕ) (known : List QualifiedName) where
       let e : (nat_lt (n - first_of s) most_bytes) ≡ true = pick (is_empty s.parts) (is_comment s.inside) (nat_lt (n - first_of s) most_bytes) c h in
       let l : n - first_of s < most_bytes = ltb-true (n - first_of s) most_bytes e in
       omega (arith, l) where
-    pick : (x y z : Bool) → y ≡ false → ((x && y) || z) ≡ true → z ≡ true
-    pick true true z c h = cc
-    pick true false z c h = h
-    pick false y z c h = h
+        pick : (x y z : Bool) → y ≡ false → ((x && y) || z) ≡ true → z ≡ true
+        pick true true z c h = cc
+        pick true false z c h = h
+        pick false y z c h = h
 
   -- a whole form
   pub whole_comes : (xs : List ℕ) (b : ℕ) (f : Form) (n first : ℕ) (symbols : List QualifiedName)

@@ -1,31 +1,23 @@
 -- What one byte more leads to in bars, strings and comments, as spelled.
-use Rattle.std.specs.Prelude.{zero, suc, ◌≡◌, ℕ, ◌+◌, ◌-◌, ◌<◌, ◌≤◌, ◌==◌, nat_lt, nat_le, List, [], ◌∷◌, ◌++◌, length, map, Bool, true, false, ◌&&◌, ◌||◌, not, if◌then◌else◌, refl, Option, Some, None, ◌⊎◌, ℤ}
-use Rattle.std.specs.Char.{to_ascii_uppercase}
-use Rattle.std.specs.List.{list_all, list_any}
+use Rattle.std.specs.Prelude.{zero, suc, ◌≡◌, ℕ, ◌+◌, ◌-◌, ◌<◌, ◌==◌, nat_le, List, [], ◌∷◌, ◌++◌, length, Bool, true, false, ◌&&◌, not, if◌then◌else◌, refl}
 use Rattle.std.specs.Str.{bytes_eq}
-use Rattle.std.proofs.Common.{sym, ap, ◌∙◌, arith, length-append, subst, inl, inr}
-use Rattle.std.proofs.lemmas.List.{append_assoc, append-nil, length_push}
-use Rattle.std.proofs.lemmas.Bool.{ltb-true, leb-true, eqb-true}
-use Rattle.std.proofs.lemmas.Bool.Decides.{nat_tests, eqb_tells}
+use Rattle.std.proofs.Common.{sym, ap, ◌∙◌, arith, subst}
+use Rattle.std.proofs.lemmas.List.{append_assoc, append-nil}
+use Rattle.std.proofs.lemmas.Bool.{eqb-true}
+use Rattle.std.proofs.lemmas.Bool.Decides.{nat_tests}
 use Rattle.std.proofs.lemmas.Slice.Eq.{bytes_eq-Decides}
-use Rattle.model_objects.specs.Object.{Integer, Symbol, Text, fits_128, weight, max_weight}
-use Rattle.model_symbols.specs.Symbols.{QualifiedName, interned, all_interned, is_one_too_many}
-use Rattle.model_text.specs.Token.{Form, Packages, is_empty, is_bar, is_blank, is_graphic, ends_token, Place, Outside, Between, Escaped, Token, Number, Name, Wrong, token_of, with_room, Written, Plainly, Within, Wrongly, written, written_token, numbered_token, nameable, letters, number_token, other_token, bare_token, integer_of, is_ratio, is_float, are_dots}
-use Rattle.model_text.specs.Token as token
-use Rattle.model_text.specs.Backquote.{Template, Constant, Plain, item_of}
-use Rattle.model_text.specs.Parts.{Lexeme, Atom, Open, Close, Dot, Quote, Backquote, Part, Put, Parts, Whole, Bad, full_dot, unless_full, in_backquote, delivered, put}
-use Rattle.model_text.specs.Parts as lexeme
-use Rattle.model_text.specs.Next.{Inside, Free, Bars, BarsEscape, String, StringEscape, Line, Block, BlockHash, BlockBar, AfterComma, State, Step, Goes, Gives, Fails, after, is_idle, is_free, is_comment, first_of, has_room, whole, counted, goes_on, marked, placed, token_put, token_ended, mark, letter, is_open_question, comma_begun, free_byte, most_bytes, most_input}
+use Rattle.model_objects.specs.Object.{Text}
+use Rattle.model_symbols.specs.Symbols.{QualifiedName}
+use Rattle.model_text.specs.Token.{Packages, is_empty, is_bar, Place, Outside, Between, Escaped}
+use Rattle.model_text.specs.Backquote.{Constant, Plain}
+use Rattle.model_text.specs.Parts.{Atom, Part, in_backquote, delivered}
+use Rattle.model_text.specs.Next.{Inside, Free, Bars, BarsEscape, String, StringEscape, Line, Block, BlockHash, BlockBar, State, is_free, counted, goes_on, marked}
 use Rattle.model_text.specs.Spelling.{Gap, AForm, IsToken, Follows, begins_apart, goes_on_as_token, begins_block, is_line, Quoted, begins_with_at}
 use Rattle.model_text.specs.Spelling as spelling
-use Rattle.model_text.specs.declared.TextCause.{TextCause}
-use Rattle.model_text.specs.declared.TextCause.TheVariants.{TooLarge, FormTooLong, BadDot, CommaOutside, BadByte, BadToken, IntegerTooWide, TooManySymbols}
-use Rattle.model_text_laws.specs.Laws.{have_room}
-use Rattle.model_text_laws.proofs.Going.{st, free, first_token}
-use Rattle.model_text_laws.proofs.Read.{follows_more, interned_append}
-use Rattle.model_text_laws.proofs.Sound.{Sound, Settled, Delivers, IsSpelled, In, deliver_sound, gap_sound, settled_more, settled_not_at, room_ok, open_sound, quote_sound, backquote_sound, close_sound, dot_sound}
-use Rattle.model_text_laws.proofs.Holding.{TokenSoFar, StringSoFar, BlockSoFar, Lexing, Situation, Holds, Finds, Comes, stays, lexeme_comes, gap_comes, next_first, gap_before, whole_comes}
-use Rattle.model_text.specs.Next.{bars_byte, string_byte, in_block, block_ended, taken_inside}
+use Rattle.model_text_laws.proofs.Going.{st}
+use Rattle.model_text_laws.proofs.Sound.{Delivers, In, deliver_sound, settled_not_at, room_ok}
+use Rattle.model_text_laws.proofs.Holding.{TokenSoFar, Lexing, Comes, stays, lexeme_comes, gap_comes}
+use Rattle.model_text.specs.Next.{bars_byte, string_byte, in_block, block_ended}
 use Rattle.model_text.specs.Spelling.{marks_block, is_block_mark}
 use Rattle.model_text_laws.proofs.Holding.{MarkSoFar}
 use Rattle.model_text_laws.proofs.Bytes.{both, Ready, kept_comes, bars_to, escape_to, free_to, follows_push}
@@ -105,10 +97,13 @@ module _ (packages : Packages) (o : ℕ) (known : List QualifiedName) where
         stays packages o known ps String StringEscape held held at first b symbols xs r.gap r.before r.part r.apart r.names r.place r.input (λ z. refl) r.split r.sound follows r.settled
         (raw, (pushed ∙ ap (λ (x : ℕ). 34 ∷ (raw ++ x ∷ [])) q), r.lexing.2) (and_false (is_empty held))
     go false e false f =
-        stays packages o known ps String String held (held ++ b ∷ []) at first b symbols xs r.gap r.before r.part r.apart r.names r.place r.input (λ z. refl) r.split r.sound follows r.settled
-        ((raw ++ b ∷ []), pushed, (λ rest more q.
-            subst (λ (y : List ℕ). Quoted y ((held ++ b ∷ []) ++ more)) (sym (append_assoc raw (b ∷ []) rest))
-            (subst (λ (y : List ℕ). Quoted (raw ++ b ∷ rest) y) (sym (append_assoc held (b ∷ []) more)) (r.lexing.2 (b ∷ rest) (b ∷ more) (spelling.byte b rest more e f q)))))
+        stays packages o known ps String String held (held ++ b ∷ []) at first b symbols xs r.gap r.before r.part r.apart r.names r.place r.input (λ z. refl) r.split r.sound follows r.settled (
+          (raw ++ b ∷ []),
+          pushed,
+          (λ rest more q.
+              subst (λ (y : List ℕ). Quoted y ((held ++ b ∷ []) ++ more)) (sym (append_assoc raw (b ∷ []) rest))
+              (subst (λ (y : List ℕ). Quoted (raw ++ b ∷ rest) y) (sym (append_assoc held (b ∷ []) more)) (r.lexing.2 (b ∷ rest) (b ∷ more) (spelling.byte b rest more e f q)))),
+        )
         (and_false (is_empty (held ++ b ∷ [])))
 
   pub string_escape_comes : (b : ℕ) (ps : List Part) (held : List ℕ) (at first : ℕ) (symbols : List QualifiedName) (xs : List ℕ) → Ready packages o known b ps StringEscape held at first symbols xs
@@ -116,10 +111,13 @@ module _ (packages : Packages) (o : ℕ) (known : List QualifiedName) where
   string_escape_comes b ps held at first symbols xs r =
       let raw = r.lexing.0 in
       let follows = follows_push packages o known r.apart r.part b r.follows in
-      stays packages o known ps StringEscape String held (held ++ b ∷ []) at first b symbols xs r.gap r.before r.part r.apart r.names r.place r.input (λ z. refl) r.split r.sound follows r.settled
-      (((raw ++ 92 ∷ []) ++ b ∷ []), push_cons 34 r.part (raw ++ 92 ∷ []) b r.lexing.1, (λ rest more q.
-          subst (λ (y : List ℕ). Quoted y ((held ++ b ∷ []) ++ more)) (sym (append_assoc (raw ++ 92 ∷ []) (b ∷ []) rest ∙ append_assoc raw (92 ∷ []) (b ∷ rest)))
-          (subst (λ (y : List ℕ). Quoted (raw ++ 92 ∷ b ∷ rest) y) (sym (append_assoc held (b ∷ []) more)) (r.lexing.2 (92 ∷ b ∷ rest) (b ∷ more) (spelling.escape b rest more q)))))
+      stays packages o known ps StringEscape String held (held ++ b ∷ []) at first b symbols xs r.gap r.before r.part r.apart r.names r.place r.input (λ z. refl) r.split r.sound follows r.settled (
+        ((raw ++ 92 ∷ []) ++ b ∷ []),
+        push_cons 34 r.part (raw ++ 92 ∷ []) b r.lexing.1,
+        (λ rest more q.
+            subst (λ (y : List ℕ). Quoted y ((held ++ b ∷ []) ++ more)) (sym (append_assoc (raw ++ 92 ∷ []) (b ∷ []) rest ∙ append_assoc raw (92 ∷ []) (b ∷ rest)))
+            (subst (λ (y : List ℕ). Quoted (raw ++ 92 ∷ b ∷ rest) y) (sym (append_assoc held (b ∷ []) more)) (r.lexing.2 (92 ∷ b ∷ rest) (b ∷ more) (spelling.escape b rest more q)))),
+      )
       (and_false (is_empty (held ++ b ∷ [])))
 
   -- ---- comments
@@ -180,8 +178,17 @@ module _ (packages : Packages) (o : ℕ) (known : List QualifiedName) where
         let P : ℕ → Type 0 = λ c. MarkSoFar c n raw in
         here (BlockBar n) refl (raw, (e ∙ ap (λ (x : ℕ). 35 ∷ 124 ∷ (raw ++ x ∷ [])) q), subst P q t, refl)
     go false f false g =
-        here (Block n) refl ((raw ++ b ∷ []), e, (t.0, t.1, (λ rest k.
-            subst (λ (y : List ℕ). spelling.Block 0 y) (sym (append_assoc raw (b ∷ []) rest)) (t.2 rest (spelling.byte t.0 b rest (no_mark b rest f g) k)))), refl)
+        here (Block n) refl (
+          (raw ++ b ∷ []),
+          e,
+          (
+            t.0,
+            t.1,
+            (λ rest k.
+                subst (λ (y : List ℕ). spelling.Block 0 y) (sym (append_assoc raw (b ∷ []) rest)) (t.2 rest (spelling.byte t.0 b rest (no_mark b rest f g) k))),
+          ),
+          refl,
+        )
 
   pub block_comes : (n b : ℕ) (ps : List Part) (held : List ℕ) (at first : ℕ) (symbols : List QualifiedName) (xs : List ℕ) → Ready packages o known b ps (Block n) held at first symbols xs
       → Comes packages o known xs b (goes_on (in_block n b) [] (st ps (Block n) held at first symbols))
@@ -211,9 +218,17 @@ module _ (packages : Packages) (o : ℕ) (known : List QualifiedName) where
         let q : b ≡ 124 = eqb-true b 124 e in
         let part_is = pushed ∙ ap (λ (x : ℕ). 35 ∷ 124 ∷ ((raw ++ 35 ∷ []) ++ x ∷ [])) q in
         stays packages o known ps (BlockHash n) (Block (n + 1)) held [] at first b symbols xs r.gap r.before r.part r.apart r.names r.place r.input none r.split r.sound
-        (follows_push packages o known r.apart r.part b r.follows) r.settled
-        (((raw ++ 35 ∷ []) ++ 124 ∷ []), part_is, ((t.0 + 1), ap (λ x. x + 1) t.1, (λ rest k.
-            subst (λ (y : List ℕ). spelling.Block 0 y) (two_more raw rest 35 124) (t.2 (124 ∷ rest) (spelling.enter t.0 rest k)))), refl) refl
+        (follows_push packages o known r.apart r.part b r.follows) r.settled (
+          ((raw ++ 35 ∷ []) ++ 124 ∷ []),
+          part_is,
+          (
+            (t.0 + 1),
+            ap (λ x. x + 1) t.1,
+            (λ rest k.
+                subst (λ (y : List ℕ). spelling.Block 0 y) (two_more raw rest 35 124) (t.2 (124 ∷ rest) (spelling.enter t.0 rest k))),
+          ),
+          refl,
+        ) refl
     go false e =
         in_block_comes (BlockHash n) n b (raw ++ 35 ∷ []) ps held at first symbols xs r pushed (past_half 35 n b raw (rw e refl) r.lexing.2)
 
@@ -247,10 +262,18 @@ module _ (packages : Packages) (o : ℕ) (known : List QualifiedName) where
         let last : block_ended n ≡ Block (n - 1) = rw more refl in
         let part_is = pushed ∙ ap (λ (x : ℕ). 35 ∷ 124 ∷ ((raw ++ 124 ∷ []) ++ x ∷ [])) q in
         subst (λ (j : Inside). Comes packages o known xs b (goes_on j [] (st ps (BlockBar n) held at first symbols))) (sym last)
-        (stays packages o known ps (BlockBar n) (Block (n - 1)) held [] at first b symbols xs r.gap r.before r.part r.apart r.names r.place r.input none r.split r.sound follows r.settled
-            (((raw ++ 124 ∷ []) ++ 35 ∷ []), part_is, (m, less, (λ rest k.
+        (stays packages o known ps (BlockBar n) (Block (n - 1)) held [] at first b symbols xs r.gap r.before r.part r.apart r.names r.place r.input none r.split r.sound follows r.settled (
+          ((raw ++ 124 ∷ []) ++ 35 ∷ []),
+          part_is,
+          (
+            m,
+            less,
+            (λ rest k.
                 subst (λ (y : List ℕ). spelling.Block 0 y) (two_more raw rest 124 35)
-                (t (35 ∷ rest) (subst (λ (x : ℕ). spelling.Block x (124 ∷ 35 ∷ rest)) one (spelling.leave m rest k))))), refl) refl)
+                (t (35 ∷ rest) (subst (λ (x : ℕ). spelling.Block x (124 ∷ 35 ∷ rest)) one (spelling.leave m rest k)))),
+          ),
+          refl,
+        ) refl)
 
     go : (x : Bool) → (b == 35) ≡ x → Comes packages o known xs b (goes_on (if x then block_ended n else in_block n b) [] (st ps (BlockBar n) held at first symbols))
     go true e = let t = r.lexing.2 in ends t.0 t.1 t.2 (eqb-true b 35 e)

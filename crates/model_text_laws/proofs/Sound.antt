@@ -1,19 +1,19 @@
 -- What the bytes so far say of the parts that are open.
-use Rattle.std.specs.Prelude.{◌≡◌, ℕ, ◌+◌, ◌-◌, ◌<◌, ◌≤◌, ◌==◌, nat_lt, max, List, [], ◌∷◌, ◌++◌, length, map, Bool, true, false, ◌&&◌, ◌||◌, not, if◌then◌else◌, refl, Option, Some, None, ◌⊎◌}
-use Rattle.std.proofs.Common.{sym, ap, ◌∙◌, arith, length-append, subst, inl, inr}
-use Rattle.std.proofs.lemmas.List.{append_assoc, append-nil, length_push, map-append}
+use Rattle.std.specs.Prelude.{◌≡◌, ℕ, ◌+◌, ◌<◌, ◌≤◌, ◌==◌, nat_lt, max, List, [], ◌∷◌, ◌++◌, length, map, Bool, true, false, if◌then◌else◌, refl, Option, Some, None}
+use Rattle.std.proofs.Common.{sym, ap, ◌∙◌, arith, length-append, subst}
+use Rattle.std.proofs.lemmas.List.{append_assoc, append-nil, map-append}
 use Rattle.std.proofs.lemmas.Bool.{ltb-true}
 use Rattle.std.proofs.lemmas.Bool.Decides.{nat_tests}
 use Rattle.model_symbols.specs.Symbols.{QualifiedName}
 use Rattle.model_text.specs.Token.{Form, Packages, ends_token, is_blank}
-use Rattle.model_text.specs.Backquote.{Template, Constant, Comma, CommaAt, Both, form_of, expansion, Item, Plain, Made, Spliced, item_of, item_form, item_expansion, joined, joined_onto, quoted_item, nil_form}
+use Rattle.model_text.specs.Backquote.{Template, Constant, Comma, CommaAt, Both, form_of, expansion, Item, Plain, Made, Spliced, item_of, item_form, item_expansion, joined, joined_onto, nil_form}
 use Rattle.model_text.specs.Parts.{Lexeme, Atom, Open, Close, Dot, Quote, Backquote, Part, Quoted, Backquoted, Unquoted, Splicing, Opened, Dotted, Ended, Put, Parts, Whole, Bad, most_parts, full_dot, unless_full, in_backquote, takes_element, opened, delivered, closed, dotted, put}
 use Rattle.model_text.specs.Parts as lexeme
 use Rattle.model_text.specs.declared.TextCause.TheVariants.{BadToken, CommaOutside, TooDeep}
 use Rattle.model_text.specs.Spelling.{Gap, AForm, ARest, Sort, Follows, begins_apart, begins_with_at, quoted_template, Spells}
 use Rattle.model_text.specs.Spelling as spelling
 use Rattle.model_text_laws.proofs.Read.{no_comma, follows_more}
-use Rattle.model_text_laws.proofs.Templates.{form_is, expansion_is, joined_push}
+use Rattle.model_text_laws.proofs.Templates.{form_is, expansion_is}
 
 pub gap_append : (xs ys : List ℕ) → Gap xs → Gap ys → Gap (xs ++ ys)
 gap_append xs ys spelling.nothing h = h
@@ -305,8 +305,8 @@ module _ (packages : Packages) where
       let text = 39 ∷ (s.inside ++ bs) in
       subst (λ (l : List ℕ). Delivers [] gap (delivered (item_of (quoted_template t)) ps) l k (ns ++ ms)) (joins xs s.before (39 ∷ s.inside) bs s.split)
       (deliver_sound ps gap s.before text (quoted_template t) s.apart k ns ms s.below
-          (record { depth = i.depth + 1; deep = omega (arith, i.deep); spells = spelling.quote (in_backquote ps) k s.inside bs t ms i.depth s.blank i.spells })
-          (follows_mark s.apart 39 (s.inside ++ bs) refl) (not_at gap ps s.before s.apart ns s.below text refl))
+      (record { depth = i.depth + 1; deep = omega (arith, i.deep); spells = spelling.quote (in_backquote ps) k s.inside bs t ms i.depth s.blank i.spells })
+      (follows_mark s.apart 39 (s.inside ++ bs) refl) (not_at gap ps s.before s.apart ns s.below text refl))
   deliver_sound (Backquoted ∷ ps) gap xs bs t c k ns ms s i w n =
       let m = s.0 in
       let text = 96 ∷ (m.inside ++ bs) in
@@ -315,8 +315,8 @@ module _ (packages : Packages) where
       subst P (joins xs m.before (96 ∷ m.inside) bs m.split)
       (subst (λ (f : Form). Delivers [] gap (delivered (Plain f) ps) (m.before ++ text) k (ns ++ ms)) (sym (expansion_is t))
       (deliver_sound ps gap m.before text u m.apart k ns ms m.below
-          (In-inside (sym s.1) (record { depth = i.depth + 1; deep = omega (arith, i.deep); spells = spelling.backquote k m.inside bs t ms i.depth m.blank i.spells }))
-          (follows_mark m.apart 96 (m.inside ++ bs) refl) (not_at gap ps m.before m.apart ns m.below text refl)))
+      (In-inside (sym s.1) (record { depth = i.depth + 1; deep = omega (arith, i.deep); spells = spelling.backquote k m.inside bs t ms i.depth m.blank i.spells }))
+      (follows_mark m.apart 96 (m.inside ++ bs) refl) (not_at gap ps m.before m.apart ns m.below text refl)))
   deliver_sound (Unquoted ∷ ps) gap xs bs t c k ns ms s i w n =
       let m = s.0 in
       let text = 44 ∷ (m.inside ++ bs) in
@@ -325,8 +325,8 @@ module _ (packages : Packages) where
       subst P (joins xs m.before (44 ∷ m.inside) bs m.split)
       (subst (λ (f : Form). Delivers [] gap (delivered (Made f) ps) (m.before ++ text) k (ns ++ ms)) (sym e)
       (deliver_sound ps gap m.before text (Comma (form_of t)) m.apart k ns ms m.below
-          (In-inside (sym s.1) (record { depth = i.depth + 1; deep = omega (arith, i.deep); spells = spelling.comma k m.inside bs t ms i.depth m.blank n i.spells }))
-          (follows_mark m.apart 44 (m.inside ++ bs) refl) (not_at gap ps m.before m.apart ns m.below text refl)))
+      (In-inside (sym s.1) (record { depth = i.depth + 1; deep = omega (arith, i.deep); spells = spelling.comma k m.inside bs t ms i.depth m.blank n i.spells }))
+      (follows_mark m.apart 44 (m.inside ++ bs) refl) (not_at gap ps m.before m.apart ns m.below text refl)))
   deliver_sound (Splicing ∷ []) gap xs bs t c k ns ms s i w n = let e = s.2 in cc
   deliver_sound (Splicing ∷ Quoted ∷ ps) gap xs bs t c k ns ms s i w n = let e = s.2 in cc
   deliver_sound (Splicing ∷ Backquoted ∷ ps) gap xs bs t c k ns ms s i w n = let e = s.2 in cc
@@ -340,30 +340,35 @@ module _ (packages : Packages) where
       let e = form_is t (no_comma false (AForm k) bs t ms i.depth i.spells refl) in
       let level : length (Splicing ∷ Opened is ∷ ps) ≡ (length ps + 1) + 1 = omega arith in
       let pushed = push_open (Sound gap ps) (length ps) (in_backquote ps) is (Spliced (item_form (item_of t))) (CommaAt (form_of t)) m.before text m.apart k ns ms m.below (ap Spliced (sym e))
-          (λ r g more rest v.
-              let j = spliced_in {d = length ps + 1} {c = k} {bs = bs} {t = t} {ns = ms} (has_some is) m.inside r g more m.blank (In-level level i) (In-inside s.1 rest) v in
-              In-bytes (ap (λ (l : List ℕ). 44 ∷ 64 ∷ l) (sym (append_assoc m.inside bs r))) (In-inside (sym s.1) j))
-          (λ r. follows_mark m.apart 44 ((64 ∷ (m.inside ++ bs)) ++ r) refl) in
+      (λ r g more rest v.
+      let j = spliced_in {d = length ps + 1} {c = k} {bs = bs} {t = t} {ns = ms} (has_some is) m.inside r g more m.blank (In-level level i) (In-inside s.1 rest) v in
+      In-bytes (ap (λ (l : List ℕ). 44 ∷ 64 ∷ l) (sym (append_assoc m.inside bs r))) (In-inside (sym s.1) j))
+      (λ r. follows_mark m.apart 44 ((64 ∷ (m.inside ++ bs)) ++ r) refl) in
       (subst (λ (l : List ℕ). Sound gap (Opened (is ++ Spliced (item_form (item_of t)) ∷ []) ∷ ps) l k (ns ++ ms)) (joins xs m.before (44 ∷ 64 ∷ m.inside) bs m.split) pushed, tt)
-  deliver_sound (Opened is ∷ ps) gap xs bs t c k ns ms s i w n =
-      (push_open (Sound gap ps) (length ps) (in_backquote ps) is (item_of t) t xs bs c k ns ms s refl
-      (λ r g more rest v. element_in (has_some is) r g more (In-level (one_more (Opened is) ps) i) rest v) (λ r. follows_more c bs r w), tt)
-  deliver_sound (Dotted is d ∷ ps) gap xs bs t c k ns ms s i w n = (record {
-    before = s.before;
-    inside = s.inside ++ bs;
-    apart = s.apart;
-    elements = s.elements;
-    end = t;
-    outer = s.outer;
-    inner = s.inner ++ ms;
-    split = sym (joins xs s.before (40 ∷ s.inside) bs s.split);
-    names = names_join ns s.outer s.inner ms s.names;
-    items = s.items;
-    end_item = refl;
-    completes = λ last g v. In-same (sym (append_assoc s.inside bs (last ++ 41 ∷ []))) refl refl (s.completes [] bs last t ms k spelling.nothing (In-level (one_more (Dotted is d) ps) i) w g v);
-    room = s.room;
-    below = s.below;
-  }, tt)
+  deliver_sound (Opened is ∷ ps) gap xs bs t c k ns ms s i w n = (
+    push_open (Sound gap ps) (length ps) (in_backquote ps) is (item_of t) t xs bs c k ns ms s refl
+        (λ r g more rest v. element_in (has_some is) r g more (In-level (one_more (Opened is) ps) i) rest v) (λ r. follows_more c bs r w),
+    tt,
+  )
+  deliver_sound (Dotted is d ∷ ps) gap xs bs t c k ns ms s i w n = (
+    record {
+      before = s.before;
+      inside = s.inside ++ bs;
+      apart = s.apart;
+      elements = s.elements;
+      end = t;
+      outer = s.outer;
+      inner = s.inner ++ ms;
+      split = sym (joins xs s.before (40 ∷ s.inside) bs s.split);
+      names = names_join ns s.outer s.inner ms s.names;
+      items = s.items;
+      end_item = refl;
+      completes = λ last g v. In-same (sym (append_assoc s.inside bs (last ++ 41 ∷ []))) refl refl (s.completes [] bs last t ms k spelling.nothing (In-level (one_more (Dotted is d) ps) i) w g v);
+      room = s.room;
+      below = s.below;
+    },
+    tt,
+  )
   deliver_sound (Ended is d j ∷ ps) gap xs bs t c k ns ms s i w n = tt
 
   -- ---- gaps
@@ -492,27 +497,27 @@ module _ (packages : Packages) where
   pub backquote_sound : (at : ℕ) (gap xs : List ℕ) (ps : List Part) (c : Bool) (ns : List QualifiedName) → Sound gap ps xs c ns → Delivers [] gap (put Backquote at ps) (xs ++ 96 ∷ []) false ns
   backquote_sound at gap xs ps c ns s =
       unless_sound [] (full_dot ps) (if in_backquote ps then Bad BadToken at else opened Backquoted at ps) gap (xs ++ 96 ∷ []) false ns (go (in_backquote ps) refl) where
-    go : (b : Bool) → in_backquote ps ≡ b → Delivers [] gap (if b then Bad BadToken at else opened Backquoted at ps) (xs ++ 96 ∷ []) false ns
-    go true e = tt
-    go false e = opened_sound [] Backquoted at gap (xs ++ 96 ∷ []) ps ns (λ l. ((begun gap (96 ∷ []) xs ps c ns s l, e), tt))
+        go : (b : Bool) → in_backquote ps ≡ b → Delivers [] gap (if b then Bad BadToken at else opened Backquoted at ps) (xs ++ 96 ∷ []) false ns
+        go true e = tt
+        go false e = opened_sound [] Backquoted at gap (xs ++ 96 ∷ []) ps ns (λ l. ((begun gap (96 ∷ []) xs ps c ns s l, e), tt))
 
   pub comma_sound : (at b : ℕ) (gap xs : List ℕ) (ps : List Part) (c : Bool) (ns : List QualifiedName) → Sound gap ps xs c ns → (b == 64) ≡ false
       → Delivers (b ∷ []) gap (put lexeme.Comma at ps) (xs ++ 44 ∷ []) false ns
   comma_sound at b gap xs ps c ns s h =
       unless_sound (b ∷ []) (full_dot ps) (if in_backquote ps then opened Unquoted at ps else Bad CommaOutside at) gap (xs ++ 44 ∷ []) false ns (go (in_backquote ps) refl) where
-    go : (q : Bool) → in_backquote ps ≡ q → Delivers (b ∷ []) gap (if q then opened Unquoted at ps else Bad CommaOutside at) (xs ++ 44 ∷ []) false ns
-    go true e = opened_sound (b ∷ []) Unquoted at gap (xs ++ 44 ∷ []) ps ns (λ l. ((begun gap (44 ∷ []) xs ps c ns s l, e), (omega arith, h)))
-    go false e = tt
+        go : (q : Bool) → in_backquote ps ≡ q → Delivers (b ∷ []) gap (if q then opened Unquoted at ps else Bad CommaOutside at) (xs ++ 44 ∷ []) false ns
+        go true e = opened_sound (b ∷ []) Unquoted at gap (xs ++ 44 ∷ []) ps ns (λ l. ((begun gap (44 ∷ []) xs ps c ns s l, e), (omega arith, h)))
+        go false e = tt
 
   pub comma_at_sound : (at : ℕ) (gap xs : List ℕ) (ps : List Part) (c : Bool) (ns : List QualifiedName) → Sound gap ps xs c ns → Delivers [] gap (put lexeme.CommaAt at ps) (xs ++ 44 ∷ 64 ∷ []) false ns
   comma_at_sound at gap xs ps c ns s =
       unless_sound [] (full_dot ps) (if in_backquote ps then (if takes_element ps then opened Splicing at ps else Bad CommaOutside at) else Bad CommaOutside at) gap (xs ++ 44 ∷ 64 ∷ []) false ns
       (go (in_backquote ps) (takes_element ps) refl refl) where
-    go : (b k : Bool) → in_backquote ps ≡ b → takes_element ps ≡ k
-        → Delivers [] gap (if b then (if k then opened Splicing at ps else Bad CommaOutside at) else Bad CommaOutside at) (xs ++ 44 ∷ 64 ∷ []) false ns
-    go true true e f = opened_sound [] Splicing at gap (xs ++ 44 ∷ 64 ∷ []) ps ns (λ l. ((begun gap (44 ∷ 64 ∷ []) xs ps c ns s l, e, f), tt))
-    go true false e f = tt
-    go false k e f = tt
+        go : (b k : Bool) → in_backquote ps ≡ b → takes_element ps ≡ k
+            → Delivers [] gap (if b then (if k then opened Splicing at ps else Bad CommaOutside at) else Bad CommaOutside at) (xs ++ 44 ∷ 64 ∷ []) false ns
+        go true true e f = opened_sound [] Splicing at gap (xs ++ 44 ∷ 64 ∷ []) ps ns (λ l. ((begun gap (44 ∷ 64 ∷ []) xs ps c ns s l, e, f), tt))
+        go true false e f = tt
+        go false k e f = tt
 
   -- ---- brackets and dots
 
@@ -530,8 +535,8 @@ module _ (packages : Packages) where
       (subst (λ (m : List QualifiedName). Delivers [] gap (delivered (item_of t) ps) (xs ++ 41 ∷ []) false m) (sym f)
       (subst (λ (l : List ℕ). Delivers [] gap (delivered (item_of t) ps) l false (outer ++ inner)) (joins xs before (40 ∷ inside) (41 ∷ []) e)
       (deliver_sound ps gap before text t a false outer inner s
-          (record { depth = j.depth + 1; deep = omega (arith, j.deep); spells = spelling.listed (in_backquote ps) (inside ++ 41 ∷ []) t inner j.depth j.spells })
-          (follows_mark a 40 (inside ++ 41 ∷ []) refl) (not_at gap ps before a outer s text refl))))
+      (record { depth = j.depth + 1; deep = omega (arith, j.deep); spells = spelling.listed (in_backquote ps) (inside ++ 41 ∷ []) t inner j.depth j.spells })
+      (follows_mark a 40 (inside ++ 41 ∷ []) refl) (not_at gap ps before a outer s text refl))))
 
   pub close_sound : (at : ℕ) (gap xs : List ℕ) (ps : List Part) (c : Bool) (ns : List QualifiedName) → Sound gap ps xs c ns → Delivers [] gap (put Close at ps) (xs ++ 41 ∷ []) false ns
   close_sound at gap xs [] c ns s = tt
@@ -557,22 +562,25 @@ module _ (packages : Packages) where
   dot_sound at gap xs (Unquoted ∷ ps) ns s = tt
   dot_sound at gap xs (Splicing ∷ ps) ns s = tt
   dot_sound at gap xs (Opened [] ∷ ps) ns s = tt
-  dot_sound at gap xs (Opened (i ∷ is) ∷ ps) ns s = (record {
-    before = s.before;
-    inside = s.inside ++ 46 ∷ [];
-    apart = s.apart;
-    elements = s.elements;
-    outer = s.outer;
-    inner = s.inner;
-    split = sym (joins xs s.before (40 ∷ s.inside) (46 ∷ []) s.split);
-    names = s.names;
-    items = s.items;
-    completes = λ inner_gap bs last t ms k h j v hl vl.
-        let tail = inner_gap ++ (bs ++ (last ++ 41 ∷ [])) in
-        In-bytes (sym (append_assoc s.inside (46 ∷ []) tail))
-        (s.completes (46 ∷ tail) t ms (record { depth = j.depth; deep = j.deep; spells = spelling.dot (in_backquote ps) k [] inner_gap bs last t ms j.depth spelling.nothing h hl j.spells v vl }) tt);
-    room = s.room;
-    below = s.below;
-  }, tt)
+  dot_sound at gap xs (Opened (i ∷ is) ∷ ps) ns s = (
+    record {
+      before = s.before;
+      inside = s.inside ++ 46 ∷ [];
+      apart = s.apart;
+      elements = s.elements;
+      outer = s.outer;
+      inner = s.inner;
+      split = sym (joins xs s.before (40 ∷ s.inside) (46 ∷ []) s.split);
+      names = s.names;
+      items = s.items;
+      completes = λ inner_gap bs last t ms k h j v hl vl.
+          let tail = inner_gap ++ (bs ++ (last ++ 41 ∷ [])) in
+          In-bytes (sym (append_assoc s.inside (46 ∷ []) tail))
+          (s.completes (46 ∷ tail) t ms (record { depth = j.depth; deep = j.deep; spells = spelling.dot (in_backquote ps) k [] inner_gap bs last t ms j.depth spelling.nothing h hl j.spells v vl }) tt);
+      room = s.room;
+      below = s.below;
+    },
+    tt,
+  )
   dot_sound at gap xs (Dotted is d ∷ ps) ns s = tt
   dot_sound at gap xs (Ended is d i ∷ ps) ns s = tt

@@ -1,7 +1,7 @@
 //! Laws about the text of forms: what is spelled is found, what is found is spelled, and what is printed is read back.
 #![tactic(auto)]
 
-ghost use Rattle.model_text_laws.specs.Laws.{SpelledStands, IsUnambiguous, StaysFound, ExpandsAlike, ReadsBack};
+ghost use Rattle.model_text_laws.specs.Laws.{SpelledStands, StandsSpelled, IsUnambiguous, StaysFound, ExpandsAlike, ReadsBack};
 
 /// Where blanks and comments and then a spelling of a form begin the bytes, within the limits, that form stands there.
 pub fn what_is_spelled_is_found()
@@ -28,4 +28,9 @@ pub fn templates_expand_alike()
 /// The text of a value, followed by a delimiter, is read as that value.
 pub fn what_is_printed_is_read_back()
     ensures { ReadsBack }
+{}
+
+/// Where a form stands, blanks and comments and then a spelling of it begin the bytes, within the limits.
+pub fn what_is_found_is_spelled()
+    ensures { StandsSpelled }
 {}
