@@ -221,6 +221,7 @@ bytes = record {
   in_bars = refl;
   in_comment = refl;
   behind_tail = refl;
+  behind_hash = refl;
   behind_open_dot = refl;
 }
 
@@ -249,6 +250,9 @@ limits = record {
   form_too_long = refl;
   comment_counts = refl;
   stray_first = refl;
+  weight_fits = refl;
+  too_large = refl;
+  no_symbol_more = λ symbols h. rw h refl;
 }
 
 pub printed : Printed

@@ -1,14 +1,15 @@
 -- What stands first in some texts, and the text of some objects.
-use Rattle.std.specs.Prelude.{◌≡◌, ℕ, List, [], ◌∷◌, ◌++◌, replicate, true, false, codes, pos, negsuc}
-use Rattle.model_objects.specs.Object.{Integer, Symbol, Text, list_onto}
-use Rattle.model_symbols.specs.Symbols.{QualifiedName}
+use Rattle.std.specs.Prelude.{◌≡◌, ℕ, zero, suc, List, [], ◌∷◌, ◌++◌, replicate, true, false, codes, pos, negsuc}
+use Rattle.model_objects.specs.Object.{Integer, Symbol, Text, Pair, list_onto}
+use Rattle.model_symbols.specs.Symbols.{QualifiedName, is_one_too_many}
 use Rattle.model_symbols.specs.Opening.{common_lisp, keyword, nil_name, quote_name}
+use Rattle.model_text.specs.Token.{Form}
 use Rattle.model_text.specs.Backquote.{nil_form, quote_form, cons_form, append_form}
 use Rattle.model_text.specs.Parts.{Part, Opened, Quoted}
-use Rattle.model_text.specs.Next.{Free, run, Step, Gives, Fails, next_at, Next, Stands, Nothing, End, Faulty}
+use Rattle.model_text.specs.Next.{Free, run, Step, Gives, Fails, whole, next_at, Next, Stands, Nothing, End, Faulty}
 use Rattle.model_text.specs.Text.{text}
 use Rattle.model_text.specs.Examples.{few_packages, own}
-use Rattle.model_text.specs.declared.TextCause.TheVariants.{StrayClose, BadDot, CommaOutside, BadToken, BadByte, IntegerTooWide, TooDeep, UnknownPackage, FormTooLong, Unfinished, InputTooLong}
+use Rattle.model_text.specs.declared.TextCause.TheVariants.{StrayClose, BadDot, CommaOutside, BadToken, BadByte, IntegerTooWide, TooDeep, UnknownPackage, TooManySymbols, FormTooLong, TooLarge, Unfinished, InputTooLong}
 
 abbrev pub key : List ℕ → QualifiedName
 key name = record { home = keyword; name = name }
@@ -28,6 +29,11 @@ read_at offset bytes = next_at few_packages 2 [] offset bytes false
 -- what more bytes lead to, of a form that began at the offset 0 and has so many bytes, where this part is open
 abbrev pub goes_on_from : Part → ℕ → List ℕ → Step
 goes_on_from part n bytes = run (record { all = few_packages; current = 2 }) (record { parts = part ∷ []; inside = Free; token = []; at = n; first = 0; symbols = [] }) bytes
+
+-- a list of lists, of weight 2^(n + 1) - 1
+abbrev pub doubled : ℕ → Form
+doubled zero = nil_form
+doubled (suc n) = Pair (doubled n) (doubled n)
 
 abbrev pub long_form : ℕ → List ℕ → Step
 long_form n bytes = goes_on_from (Opened []) n bytes
@@ -226,6 +232,7 @@ pub record Bytes : Type 0 where
   pub in_bars : read (codes "|" ++ ((128 ∷ []) ++ (codes "| "))) ≡ Stands (Symbol (own (128 ∷ []))) 3 (own (128 ∷ []) ∷ [])
   pub in_comment : read (codes "#|" ++ ((128 ∷ []) ++ (codes "|#1 "))) ≡ Stands (Integer (pos 1)) 6 []
   pub behind_tail : read (codes "(1 . 2 " ++ (128 ∷ [])) ≡ Faulty BadByte 7
+  pub behind_hash : read (codes "#" ++ (128 ∷ [])) ≡ Faulty BadByte 1
   pub behind_open_dot : read (codes "(a . b ." ++ (128 ∷ [])) ≡ Faulty BadByte 8
 
 -- Of two faults the first is told.
@@ -250,6 +257,9 @@ pub record Limits : Type 0 where
   pub form_too_long : long_form (1048576) (codes " ") ≡ Fails FormTooLong 1048576
   pub comment_counts : long_form (1048575) (codes ";x") ≡ Fails FormTooLong 1048576
   pub stray_first : long_quote (1048576) (codes ")") ≡ Fails StrayClose 1048576
+  pub weight_fits : whole (doubled 19) 9 7 [] ≡ Gives (doubled 19) 9 []
+  pub too_large : whole (doubled 20) 9 7 [] ≡ Fails TooLarge 7
+  pub no_symbol_more : (symbols : List QualifiedName) → is_one_too_many symbols (own (codes "FOO")) ≡ true → next_at few_packages 2 symbols 0 (codes "(foo)") false ≡ Faulty TooManySymbols 1
 
 -- Printed forms.
 pub record Printed : Type 0 where
