@@ -71,9 +71,12 @@ initially_name = record { home = keyword; name = codes "INITIALLY" }
 abbrev pub taken_names : List (List ℕ)
 taken_names = codes "IF" ∷ codes "EQ" ∷ codes "OR" ∷ codes "MV" ∷ codes "ZP" ∷ codes "LD" ∷ codes "ER" ∷ codes "CW" ∷ codes "ZI" ∷ []
 
+abbrev pub are_upper_case : List ℕ → Bool
+are_upper_case name = list_all is_ascii_uppercase name
+
 -- the name of an object or a field: a word of two letters that is not taken
-abbrev pub is_new_name : QualifiedName → Bool
-is_new_name s = (length s.name == 2) && (list_all is_ascii_uppercase s.name && not (list_any (bytes_eq s.name) taken_names))
+abbrev pub is_new_name : List ℕ → Bool
+is_new_name name = (length name == 2) && (are_upper_case name && not (list_any (bytes_eq name) taken_names))
 
 -- ---- commands
 
@@ -92,6 +95,11 @@ pub data Command : Type 0 where
   -- any other form
   Other : Command
 
+abbrev pub new_field : Option QualifiedName → Option ℤ → Option NewField
+new_field None initial = None
+new_field (Some name) None = None
+new_field (Some name) (Some initial) = Some (record { name = name; initial = initial })
+
 -- `F :type integer :initially N`
 abbrev pub field_in : List Form → Option NewField
 field_in [] = None
@@ -101,7 +109,7 @@ field_in (f ∷ a ∷ b ∷ []) = None
 field_in (f ∷ a ∷ b ∷ c ∷ []) = None
 field_in (f ∷ a ∷ b ∷ c ∷ n ∷ []) =
     if is_symbol type_name a && (is_symbol integer_name b && is_symbol initially_name c)
-    then option_and_then (λ s. option_map (λ (z : ℤ). record { name = s; initial = z }) (integer_of n)) (word_of f)
+    then new_field (word_of f) (integer_of n)
     else None
 field_in (f ∷ a ∷ b ∷ c ∷ n ∷ m ∷ more) = None
 
@@ -113,9 +121,12 @@ fields_of [] = Some []
 fields_of (f ∷ fs) = option_and_then (λ field. option_map (λ (rest : List NewField). field ∷ rest) (fields_of fs)) (field_of f)
 
 -- the names are new, and different from these and from each other
+abbrev pub is_fresh : List QualifiedName → QualifiedName → Bool
+is_fresh others s = is_new_name s.name && not (is_known others s)
+
 abbrev pub are_new : List QualifiedName → List QualifiedName → Bool
 are_new others [] = true
-are_new others (s ∷ ss) = is_new_name s && (not (is_known others s) && are_new (others ++ s ∷ []) ss)
+are_new others (s ∷ ss) = is_fresh others s && are_new (others ++ s ∷ []) ss
 
 abbrev pub is_empty : {A : Type 0} → List A → Bool
 is_empty [] = true

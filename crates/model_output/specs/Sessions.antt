@@ -31,8 +31,11 @@ abbrev pub printed : QualifiedName → List ℕ
 printed s = s.name
 
 -- an object's name in lower case in angle brackets
+abbrev pub shown_name : List ℕ → List ℕ
+shown_name name = codes "<" ++ (map to_ascii_lowercase name ++ codes ">")
+
 abbrev pub shown : QualifiedName → List ℕ
-shown s = codes "<" ++ (map to_ascii_lowercase s.name ++ codes ">")
+shown s = shown_name s.name
 
 abbrev pub refused : Session → Answered
 refused session = record { session = session; line = codes "Refused: NotYet"; calls = 0; is_error = true }
@@ -67,12 +70,16 @@ abbrev pub updated : Session → Stobj → Option ℕ → ℤ → Answered
 updated session o None n = refused session
 updated session o (Some k) n = record { session = record { object = Some (with_value o k n) }; line = shown o.name; calls = 1; is_error = false }
 
+-- the line of a guard violation: the function, its argument, and the object
+abbrev pub violation_text : List ℕ → List ℕ → List ℕ → List ℕ
+violation_text function argument object = codes "Guard violation: (" ++ (function ++ (codes " " ++ (argument ++ (codes " " ++ (shown_name object ++ codes ")")))))
+
 -- a call of an updater with a symbol: its guard wants an integer
 abbrev pub violated : Session → Stobj → QualifiedName → Option ℕ → QualifiedName → Answered
 violated session o f None s = refused session
 violated session o f (Some k) s = record {
   session = session;
-  line = codes "Guard violation: (" ++ (printed f ++ (codes " " ++ (printed s ++ (codes " " ++ (shown o.name ++ codes ")")))));
+  line = violation_text (printed f) (printed s) o.name.name;
   calls = 1;
   is_error = true;
 }

@@ -1,10 +1,10 @@
 -- The text of a book: blanks and forms. A form is a word, a keyword, an integer, a quoted word, or a list of forms; lists
 -- nest at most two deep.
-use Rattle.std.specs.Prelude.{ℕ, ◌==◌, nat_lt, nat_le, List, [], ◌∷◌, ◌++◌, length, map, Bool, ◌||◌, ◌&&◌, Option, Some, None, if◌then◌else◌, false}
+use Rattle.std.specs.Prelude.{ℤ, pos, neg_ℤ, ℕ, ◌==◌, nat_lt, nat_le, List, [], ◌∷◌, ◌++◌, length, map, Bool, ◌||◌, ◌&&◌, Option, Some, None, if◌then◌else◌, false}
 use Rattle.std.specs.Option.{option_map, option_and_then}
 use Rattle.std.specs.Char.{to_ascii_uppercase, is_ascii_digit, is_ascii_alphabetic}
 use Rattle.std.specs.List.{list_all}
-use Rattle.std.specs.Str.Parse.{signed_digits_value}
+use Rattle.std.specs.Str.Parse.{digits_value}
 use Rattle.model_objects.specs.Object.{Object, Integer, Symbol, Pair, list_onto}
 use Rattle.model_symbols.specs.Symbols.{QualifiedName, symbol_in}
 use Rattle.model_symbols.specs.Opening.{acl2_package, keyword, nil_name, quote_name}
@@ -44,6 +44,10 @@ abbrev pub is_integer : List ℕ → Bool
 is_integer [] = false
 is_integer (b ∷ bs) = if b == 45 then is_digits bs else is_digits (b ∷ bs)
 
+abbrev pub integer_value : List ℕ → ℤ
+integer_value [] = pos 0
+integer_value (b ∷ bs) = if b == 45 then neg_ℤ (pos (digits_value 10 bs)) else pos (digits_value 10 (b ∷ bs))
+
 -- the symbol of a word, in the package that a session begins in
 abbrev pub word_symbol : List ℕ → QualifiedName
 word_symbol bs = symbol_in acl2_package (map to_ascii_uppercase bs)
@@ -55,14 +59,20 @@ keyword_symbol bs = record { home = keyword; name = map to_ascii_uppercase bs }
 abbrev pub plain_atom : List ℕ → Option Form
 plain_atom bs =
     if is_word bs then Some (Symbol (word_symbol bs))
-    else (if is_integer bs then Some (Integer (signed_digits_value 10 bs))
+    else (if is_integer bs then Some (Integer (integer_value bs))
     else None)
+
+abbrev pub quoted_atom : List ℕ → Option Form
+quoted_atom bs = if is_word bs then Some (quote_form (Symbol (word_symbol bs))) else None
+
+abbrev pub keyword_atom : List ℕ → Option Form
+keyword_atom bs = if is_word bs then Some (Symbol (keyword_symbol bs)) else None
 
 abbrev pub atom_of : List ℕ → Option Form
 atom_of [] = None
 atom_of (b ∷ bs) =
-    if b == 39 then (if is_word bs then Some (quote_form (Symbol (word_symbol bs))) else None)
-    else (if b == 58 then (if is_word bs then Some (Symbol (keyword_symbol bs)) else None)
+    if b == 39 then quoted_atom bs
+    else (if b == 58 then keyword_atom bs
     else plain_atom (b ∷ bs))
 
 -- ---- tokens

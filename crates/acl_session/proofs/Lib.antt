@@ -1,0 +1,6 @@
+pub mod CommandLemmas
+pub mod DefinedLemmas
+pub mod DigitLemmas
+pub mod NameLemmas
+pub mod ScanLemmas
+pub mod StobjLemmas
