@@ -13,3 +13,4 @@ pub mod Holding
 pub mod Bytes
 pub mod Inner
 pub mod Runs
+pub mod Later

@@ -8,7 +8,7 @@ use Rattle.model_symbols.specs.Opening.{hidden}
 use Rattle.model_text.specs.Token.{Form, Packages, ends_token}
 use Rattle.model_text.specs.Backquote.{Template, form_of, expansion, item_of, item_expansion}
 use Rattle.model_text.specs.Parts.{most_parts}
-use Rattle.model_text.specs.Next.{next_at, Stands, most_bytes, most_input}
+use Rattle.model_text.specs.Next.{State, Goes, run, nothing_read, next_at, Stands, most_bytes, most_input}
 use Rattle.model_text.specs.Text.{text}
 use Rattle.model_text.specs.Spelling.{Gap, AForm, Spells}
 
@@ -98,3 +98,24 @@ ReadsBack = (all : List Package) (current : ℕ) (symbols : List QualifiedName) 
     → is_value o ≡ true → Symbols (IsReadable all symbols) o → ends_token b ≡ true
     → nesting o false ≤ most_parts → length (text all current o) ≤ most_bytes → (offset + length (text all current o)) + 1 ≤ most_input
     → next_at all current symbols offset (text all current o ++ b ∷ rest) ended ≡ Stands o (offset + length (text all current o)) symbols
+
+-- ---- what was read before
+
+-- the state, where these symbols are known
+abbrev pub with_symbols : List QualifiedName → State → State
+with_symbols symbols s = record { parts = s.parts; inside = s.inside; token = s.token; at = s.at; first = s.first; symbols = symbols }
+
+-- what is known in one list is known in the other
+abbrev pub Knows_more : List QualifiedName → List QualifiedName → Type 0
+Knows_more old new = (s : QualifiedName) → is_known old s ≡ true → is_known new s ≡ true
+
+-- each package keeps its number and what it holds, and the current one is the same
+pub record Grow (old new : Packages) : Type 0 where
+  pub current : package_at new.all new.current ≡ package_at old.all old.current
+  pub number : (name : List ℕ) (n : ℕ) → package_number old.all name ≡ Some n → package_number new.all name ≡ Some n
+  pub package_same : (name : List ℕ) (n : ℕ) → package_number old.all name ≡ Some n → package_at new.all n ≡ package_at old.all n
+
+-- bytes that were read without a form or a fault are read so, to the same state, where there are more packages and more symbols
+abbrev pub StaysRead : Type 0
+StaysRead = (old new : Packages) (symbols more : List QualifiedName) (offset : ℕ) (bytes : List ℕ) (s : State)
+    → Grow old new → run old (nothing_read symbols offset) bytes ≡ Goes s → Knows_more s.symbols more → run new (nothing_read more offset) bytes ≡ Goes (with_symbols more s)

@@ -1,7 +1,7 @@
 //! Laws about the text of forms: what is spelled is found, what is found is spelled, and what is printed is read back.
 #![tactic(auto)]
 
-ghost use Rattle.model_text_laws.specs.Laws.{SpelledStands, StandsSpelled, IsUnambiguous, StaysFound, ExpandsAlike, ReadsBack};
+ghost use Rattle.model_text_laws.specs.Laws.{SpelledStands, StandsSpelled, IsUnambiguous, StaysFound, ExpandsAlike, ReadsBack, StaysRead};
 
 /// Where blanks and comments and then a spelling of a form begin the bytes, within the limits, that form stands there.
 pub fn what_is_spelled_is_found()
@@ -33,4 +33,9 @@ pub fn what_is_printed_is_read_back()
 /// Where a form stands, blanks and comments and then a spelling of it begin the bytes, within the limits.
 pub fn what_is_found_is_spelled()
     ensures { StandsSpelled }
+{}
+
+/// What was read of a form stays read, as packages and symbols grow.
+pub fn what_was_read_stays()
+    ensures { StaysRead }
 {}
