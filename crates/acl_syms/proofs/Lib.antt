@@ -1,3 +1,5 @@
 pub mod MapLemmas
 pub mod FieldLemmas
 pub mod GrowthLemmas
+pub mod ImportLemmas
+pub mod PackageLemmas
