@@ -3,3 +3,5 @@ pub mod FieldLemmas
 pub mod GrowthLemmas
 pub mod ImportLemmas
 pub mod PackageLemmas
+pub mod OpeningLemmas
+pub mod Stages
