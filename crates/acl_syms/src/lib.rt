@@ -12,6 +12,8 @@ ghost use Rattle.acl_syms.specs.Fields.{KeptSymbol, KeptPackage};
 mod interning;
 mod opening;
 mod packages;
+#[cfg(test)]
+mod tests;
 
 use acl_base::{PkgId, SymId};
 use indexmap::{IndexMap, IndexSet};
