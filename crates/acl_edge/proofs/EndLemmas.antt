@@ -27,9 +27,10 @@ Gives-then (Some v) None c x y p q = cc
 Gives-then (Some v) (Some w) c x y p q =
     let at : w ≡ drop (length x) v = cc in
     let rest : drop (length y) w ≡ drop (length (x ++ y)) v =
-    ap (drop (length y)) at ∙ (drop-drop (length y) (length x) v ∙ ap (λ n. drop n v) (sym (length-append x y))) in
-    (q.0 ∙ ap Some rest,
-    p.1 ∙ (ap (λ (l : List ℕ). x ++ l) (sym at ∙ q.1) ∙ (sym (append_assoc x y (drop (length y) w)) ∙ ap (λ (l : List ℕ). (x ++ y) ++ l) rest)))
+    ap (drop (length y)) at ∙ (drop-drop (length y) (length x) v ∙ ap (λ n. drop n v) (sym (length-append x y))) in (
+      q.0 ∙ ap Some rest,
+      p.1 ∙ (ap (λ (l : List ℕ). x ++ l) (sym at ∙ q.1) ∙ (sym (append_assoc x y (drop (length y) w)) ∙ ap (λ (l : List ℕ). (x ++ y) ++ l) rest)),
+    )
 
 -- a first part, and a first part of what is left
 pub take_sum : {A : Type 0} (n m : ℕ) (xs : List A) → take (n + m) xs ≡ take n xs ++ take m (drop n xs)

@@ -47,15 +47,19 @@ calls_most s c = go s.object c where
   read : (o : sessions.Stobj) (k : Option ℕ) → (sessions.was_read s o k).calls ≤ 1
   read o None = omega arith
   read o (Some k) = omega arith
+
   update : (o : sessions.Stobj) (k : Option ℕ) (n : ℤ) → (sessions.updated s o k n).calls ≤ 1
   update o None n = omega arith
   update o (Some k) n = omega arith
+
   violate : (o : sessions.Stobj) (f : QualifiedName) (k : Option ℕ) (t : QualifiedName) → (sessions.violated s o f k t).calls ≤ 1
   violate o f None t = omega arith
   violate o f (Some k) t = omega arith
+
   either : (t : Bool) (a b : sessions.Answered) → a.calls ≤ 1 → b.calls ≤ 1 → (if t then a else b).calls ≤ 1
   either true a b p q = p
   either false a b p q = q
+
   go : (o : Option sessions.Stobj) (d : Command) → (sessions.run_with s o d).calls ≤ 1
   go None (Define x fs) = omega arith
   go None (Update f n x) = omega arith
@@ -183,11 +187,14 @@ told_input None bytes h = record { input = bytes; told = tt; same = refl }
 told_input (Some left) bytes h = go (nat_le (length bytes) most_bytes) refl where
   at_most : (n : ℕ) → nat_le n most_bytes ≡ true → n ≤ most_bytes
   at_most n e = grind (arith, nat_tests)
+
   above : (n : ℕ) → nat_le n most_bytes ≡ false → most_bytes < n
   above n e = grind (arith, nat_tests)
+
   empty : (l : List ℕ) → length l ≡ 0 → l ≡ []
   empty [] e = refl
   empty (x ∷ xs) e = absurd (omega arith)
+
   go : (t : Bool) → nat_le (length bytes) most_bytes ≡ t → Told (Some left) bytes
   go true e =
       let none = empty h.rest (h.long (at_most (length bytes) e)) in

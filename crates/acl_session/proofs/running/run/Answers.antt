@@ -12,12 +12,12 @@ returns-in-Ok-answer-clause-exact g c =
 pub returns-in-Err-Fault-answer-clause-exact : goal.returns-in-Err-Fault-answer-clause-exact
 returns-in-Err-Fault-answer-clause-exact g c =
     (run_cut (g.S.Source.left c.args.source.now) (g.K.Sink.written c.args.sink.now) (g.K.Sink.written c.answer.new.sink) c.in-Ok.input.items
-        c.in-Ok.ensures.input (rw c.as_slice.ensures.value at c.in-Err-Fault-answer.ensures.part)).0
+    c.in-Ok.ensures.input (rw c.as_slice.ensures.value at c.in-Err-Fault-answer.ensures.part)).0
 
 pub returns-in-Ok-clause-exact : goal.returns-in-Ok-clause-exact
 returns-in-Ok-clause-exact g c =
     (run_cut (g.S.Source.left c.args.source.now) (g.K.Sink.written c.args.sink.now) (g.K.Sink.written c.answer.new.sink) c.in-Ok.input.items
-        c.in-Ok.ensures.input (rw c.as_slice.ensures.value at c.in-Err-Memory-answer.ensures.part)).1
+    c.in-Ok.ensures.input (rw c.as_slice.ensures.value at c.in-Err-Memory-answer.ensures.part)).1
 
 pub returns-in-Err-Fault-clause-exact : goal.returns-in-Err-Fault-clause-exact
 returns-in-Err-Fault-clause-exact g c = (run_nothing (g.S.Source.left c.args.source.now) (g.K.Sink.written c.args.sink.now)).1
