@@ -1,7 +1,7 @@
 -- One call after another.
-use Rattle.std.specs.Prelude.{◌≡◌, ℕ, ◌+◌, ◌≤◌, ◌-◌, List, [], ◌++◌, length, take, drop, Option, Some, None, refl}
+use Rattle.std.specs.Prelude.{◌≡◌, ℕ, ◌+◌, ◌≤◌, List, [], ◌++◌, length, take, drop, Option, Some, None, refl}
 use Rattle.std.proofs.Common.{sym, ap, ◌∙◌, subst, arith}
-use Rattle.std.proofs.lemmas.List.{append_assoc, append-nil, drop-drop, length-append, length-drop, length-take-le, take-take, drop-take, take-append-drop}
+use Rattle.std.proofs.lemmas.List.{append_assoc, append-nil, drop-drop, length-append, take-take, drop-take, take-append-drop}
 use Rattle.acl_edge.specs.Outside.{Gives, Takes}
 
 pub Takes-nothing : (a : Option (List ℕ)) → Takes a a []

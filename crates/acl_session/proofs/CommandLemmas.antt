@@ -1,5 +1,5 @@
 -- The parts of forms.
-use Rattle.std.specs.Prelude.{◌≡◌, ℕ, suc, ◌+◌, ◌<◌, ◌≤◌, List, [], ◌∷◌, ◌++◌, length, map, Bool, true, false, ◌&&◌, ◌||◌, ◌==◌, not, ℤ, ◌≢◌, take, drop, Some, None, Option, codes, if◌then◌else◌, refl}
+use Rattle.std.specs.Prelude.{◌≡◌, ℕ, suc, ◌+◌, ◌<◌, ◌≤◌, List, [], ◌∷◌, ◌++◌, length, map, Bool, true, false, ◌&&◌, ◌||◌, ◌==◌, not, ℤ, ◌≢◌, take, drop, Some, None, codes, if◌then◌else◌, refl}
 use Rattle.std.proofs.Common.{arith, get_or, sym, ap, ◌∙◌}
 use Rattle.std.specs.Option.{option_map}
 use Rattle.std.specs.List.{list_any, list_all}
@@ -9,17 +9,16 @@ use Rattle.acl_session.specs.OwnFields.{fields_own}
 use Rattle.std.specs.Str.{bytes_eq}
 use Rattle.std.proofs.lemmas.Bool.Decides.{nat_tests}
 use Rattle.std.proofs.lemmas.List.{drop_more, take_more, drop_all, map_push}
-use Rattle.model_objects.specs.Object.{Symbol, Integer, Pair}
+use Rattle.model_objects.specs.Object.{Symbol, Integer}
 use Rattle.model_symbols.specs.Symbols.{QualifiedName, same_name, is_known}
 use Rattle.model_symbols.specs.Opening.{nil_name, quote_name}
-use Rattle.model_output.specs.Text.{Form, list_form, nil_form, quote_form}
+use Rattle.model_output.specs.Text.{Form, list_form, quote_form}
 use Rattle.model_output.specs.Commands as commands
-use Rattle.acl_session.specs.Views.{atom_form, atom_forms, item_form, symbol_named, keyword_named}
+use Rattle.acl_session.specs.Views.{atom_form, atom_forms, symbol_named}
 use Rattle.acl_session.proofs.NameLemmas.{named_is_no_keyword, quote_named, nil_named, integer_named, defstobj_named, same_word, name_of_named, bytes_same}
 use Rattle.acl_session.specs.CommandViews.{field_names, field_views}
 use Rattle.acl_session.specs.declared.definition.NewField.{NewField}
 use Rattle.acl_session.specs.declared.atoms.Atom.{Atom}
-use Rattle.acl_session.specs.declared.atoms.Atom.TheVariants as atom
 
 pub elements_list : (fs : List Form) → commands.elements (list_form fs) ≡ Some fs
 elements_list [] = refl

@@ -1,10 +1,10 @@
 -- The symbols of words: which package they are of, and when they are the same.
-use Rattle.std.specs.Prelude.{◌≡◌, ℕ, List, [], ◌∷◌, ◌++◌, map, Bool, true, false, ◌&&◌, ◌||◌, Option, Some, None, unwrap_or, codes, if◌then◌else◌, refl}
+use Rattle.std.specs.Prelude.{◌≡◌, ℕ, List, [], ◌∷◌, Bool, true, false, ◌&&◌, ◌||◌, Option, Some, None, unwrap_or, codes, if◌then◌else◌, refl}
 use Rattle.std.proofs.Common.{sym, ap, ◌∙◌}
 use Rattle.std.specs.List.{list_any}
 use Rattle.std.specs.Str.{bytes_eq}
 use Rattle.std.proofs.lemmas.Slice.Eq.{bytes_eq-Decides}
-use Rattle.model_symbols.specs.Symbols.{QualifiedName, same_name, symbol_in, import_of}
+use Rattle.model_symbols.specs.Symbols.{QualifiedName, same_name, import_of}
 use Rattle.model_symbols.specs.Opening.{words, symbols_of, common_lisp, acl2, keyword, common_lisp_text, common_lisp_symbols, acl2_package, nil_name, quote_name}
 use Rattle.model_output.specs.Commands.{is_keyword, integer_name, defstobj_name}
 use Rattle.acl_session.specs.Own.{is_imported}

@@ -1,7 +1,7 @@
 -- An output, as far as it was written.
-use Rattle.std.specs.Prelude.{◌≡◌, ℤ, ℕ, ◌+◌, ◌≤◌, ◌<◌, ◌==◌, List, [], ◌∷◌, ◌++◌, length, take, drop, map, Bool, true, false, Option, Some, None, if◌then◌else◌, nat_le, nat_lt, refl}
+use Rattle.std.specs.Prelude.{◌≡◌, ℤ, ℕ, ◌+◌, ◌≤◌, ◌<◌, ◌==◌, List, [], ◌∷◌, ◌++◌, length, drop, Bool, true, false, Option, Some, None, if◌then◌else◌, nat_le, refl}
 use Rattle.std.proofs.Common.{sym, ap, ◌∙◌, subst, arith, get_or}
-use Rattle.std.specs.Option.{option_map, option_and_then}
+use Rattle.std.specs.Option.{option_and_then}
 use Rattle.std.proofs.lemmas.List.{append_assoc, append-nil, drop_more, drop_all, length-append}
 use Rattle.std.proofs.lemmas.Bool.Decides.{nat_tests}
 use Rattle.acl_base.specs.declared.status.Status.{Status}
@@ -15,9 +15,9 @@ use Rattle.model_output.specs.Sessions as sessions
 use Rattle.model_output.specs.Output.{Output, Totals, output, before, line, answers, answered, counted, ended, no_totals, summary_text, fault_text, faulty, one_if}
 use Rattle.acl_session.specs.Views.{form_view, form_views}
 use Rattle.acl_session.specs.declared.forms.Form as code
-use Rattle.acl_session.specs.Sessions.{Says, Answers}
+use Rattle.acl_session.specs.Sessions.{Answers}
 use Rattle.acl_session.specs.declared.session.Answer.{Answer}
-use Rattle.acl_session.specs.Runs.{Tells, IsInput, IsFirstPart, TakesPart, Ends, IsRun, Writing, Finishes, IsPlain, counted_by}
+use Rattle.acl_session.specs.Runs.{Tells, IsInput, TakesPart, Ends, IsRun, Writing, Finishes, IsPlain, counted_by}
 
 -- ---- parts
 

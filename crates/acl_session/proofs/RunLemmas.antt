@@ -1,11 +1,10 @@
 -- What was read and written so far.
-use Rattle.std.specs.Prelude.{◌≡◌, ℕ, ◌+◌, ◌≤◌, ◌<◌, List, [], ◌∷◌, ◌++◌, length, take, drop, Option, Some, None, refl}
+use Rattle.std.specs.Prelude.{◌≡◌, ℕ, ◌≤◌, ◌<◌, List, [], ◌++◌, length, take, drop, Option, Some, None}
 use Rattle.std.proofs.Common.{sym, ap, ◌∙◌, subst, arith}
-use Rattle.std.proofs.lemmas.List.{take-append-drop, append_assoc, append-nil, take-take, take-append-le}
+use Rattle.std.proofs.lemmas.List.{take-append-drop, take-take, take-append-le}
 use Rattle.acl_edge.specs.Outside.{Gives, Takes, IsSpent}
-use Rattle.acl_edge.proofs.EndLemmas.{Takes-nothing, Takes-then}
 use Rattle.model_output.specs.Text.{most_bytes}
-use Rattle.acl_session.specs.Runs.{IsFirstPart, IsInput, TakesPart}
+use Rattle.acl_session.specs.Runs.{IsInput, TakesPart}
 
 -- what was written before a refused write
 pub stopped_part : (a b c : Option (List ℕ)) (bytes : List ℕ) (at : ℕ) → Takes a b (take at bytes) → c ≡ b → TakesPart a c bytes

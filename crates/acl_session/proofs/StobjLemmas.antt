@@ -1,5 +1,5 @@
 -- The fields of an object, found by name.
-use Rattle.std.specs.Prelude.{◌≡◌, nat_lt, None, if◌then◌else◌, ℕ, List, [], ◌∷◌, ◌++◌, take, drop, length, map, Bool, true, false, not, ◌&&◌, position, cond, ◌+◌, refl}
+use Rattle.std.specs.Prelude.{◌≡◌, nat_lt, None, if◌then◌else◌, ℕ, List, [], ◌∷◌, length, map, Bool, true, false, not, ◌&&◌, position, cond, ◌+◌, refl}
 use Rattle.std.proofs.Common.{sym, ap, ◌∙◌, arith}
 use Rattle.std.proofs.lemmas.Bool.Decides.{nat_tests}
 use Rattle.std.specs.List.{position_or_len}

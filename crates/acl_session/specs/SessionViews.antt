@@ -1,6 +1,5 @@
 -- The sessions of the model that the code's sessions stand for.
-use Rattle.std.specs.Prelude.{◌≡◌, ℕ, List, ◌++◌, map, codes}
-use Rattle.std.specs.Option.{option_map}
+use Rattle.std.specs.Prelude.{ℕ, List, map}
 use Rattle.std.specs.Global.{Vec}
 use Rattle.model_symbols.specs.Symbols.{QualifiedName}
 use Rattle.model_output.specs.Sessions as model

@@ -1,5 +1,5 @@
 -- What a session and its answers stand for.
-use Rattle.std.specs.Prelude.{◌≡◌, List, ℕ, Some}
+use Rattle.std.specs.Prelude.{◌≡◌, Some}
 use Rattle.std.specs.Option.{option_map}
 use Rattle.model_output.specs.Sessions as model
 use Rattle.acl_session.specs.SessionViews.{stobj_view}

@@ -1,7 +1,7 @@
 -- Whole books, and what is written for them.
 use Rattle.std.specs.Prelude.{◌≡◌, List, ℕ, [], ◌∷◌, ◌++◌, codes}
 use Rattle.acl_base.specs.declared.status.Status.TheVariants.{Done, Errors, Text}
-use Rattle.model_output.specs.Output.{output, Output, line}
+use Rattle.model_output.specs.Output.{output, line}
 
 -- lines, each with the byte that ends it
 abbrev pub lines : List (List ℕ) → List ℕ

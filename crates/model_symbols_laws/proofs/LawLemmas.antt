@@ -1,10 +1,9 @@
 -- The laws of symbols.
 use Rattle.std.specs.Prelude.{◌≡◌, ℕ, ◌<◌, List, length, Some, refl}
 use Rattle.std.proofs.Common.{sym, ap, ◌∙◌}
-use Rattle.model_objects.specs.Object.{Object}
-use Rattle.model_objects.specs.Named.{Knows, named-injective, named-agrees, Symbols-weaker}
-use Rattle.model_symbols.specs.Symbols.{QualifiedName, Table, symbol_at, number_of}
-use Rattle.model_symbols.specs.Growth.{AreDistinct, Extends, IsSymbol}
+use Rattle.model_objects.specs.Named.{named-injective, named-agrees, Symbols-weaker}
+use Rattle.model_symbols.specs.Symbols.{QualifiedName, symbol_at, number_of}
+use Rattle.model_symbols.specs.Growth.{AreDistinct, IsSymbol}
 use Rattle.model_symbols.specs.Opening.{opening, acl2_package, common_lisp_symbols, acl2_symbols, common_lisp_text, acl2_text}
 use Rattle.model_symbols.proofs.NameLemmas.{symbol-at, symbol_at-is, interned-known, interned-new, number-push_same, symbol_in-name}
 use Rattle.model_symbols_laws.specs.Laws.{NamesObjects, Interning, OpensRight}

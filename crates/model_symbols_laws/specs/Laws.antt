@@ -1,5 +1,5 @@
 -- What is said of symbols and of naming, as laws.
-use Rattle.std.specs.Prelude.{◌≡◌, ℕ, ◌≤◌, List, [], ◌∷◌, ◌++◌, length, Some, None}
+use Rattle.std.specs.Prelude.{◌≡◌, ℕ, List, [], ◌∷◌, ◌++◌, length, Some, None}
 use Rattle.model_objects.specs.Object.{Object}
 use Rattle.model_objects.specs.Named.{Knows}
 use Rattle.model_symbols.specs.Symbols.{QualifiedName, Package, Table, symbol_at, number_of, form_of, interned, symbol_in}

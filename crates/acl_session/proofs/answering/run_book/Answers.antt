@@ -5,7 +5,7 @@ use Rattle.model_output.specs.Sessions.{first_session}
 use Rattle.acl_session.specs.Views.{form_view, form_views}
 use Rattle.acl_session.specs.Sessions.{session_view}
 use Rattle.acl_session.specs.Runs.{totals_view}
-use Rattle.acl_session.proofs.OutputLemmas.{counts, calls_most, writing_next, writing_cut, writing_so_far, writing_last_cut, writing_done}
+use Rattle.acl_session.proofs.OutputLemmas.{counts, calls_most, writing_next, writing_cut, writing_last_cut}
 use Rattle.acl_session.proofs.answering.run_book.Goals as goal
 
 pub count-requires-clause-calls : goal.count-requires-clause-calls

@@ -1,5 +1,5 @@
 use Rattle.std.proofs.Common.{rules, ap, ◌∙◌}
-use Rattle.model_output.specs.Output.{line, Totals, summary_text}
+use Rattle.model_output.specs.Output.{summary_text}
 use Rattle.acl_session.proofs.OutputLemmas.{fault_cut, fault_between, fault_last_cut, fault_done}
 use Rattle.acl_session.proofs.answering.write_fault.Goals as goal
 

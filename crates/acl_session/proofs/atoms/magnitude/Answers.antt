@@ -1,4 +1,4 @@
-use Rattle.std.proofs.Common.{◌≡◌, arith, take, length, ◌≤◌, ◌∙◌, ap}
+use Rattle.std.proofs.Common.{◌≡◌, arith, length, ◌≤◌, ◌∙◌, ap}
 use Rattle.std.proofs.lemmas.List.{take_all}
 use Rattle.std.specs.Str.Parse.{digits_value}
 use Rattle.acl_session.proofs.DigitLemmas.{are_digits, step_of, value_small}

@@ -1,5 +1,4 @@
-use Rattle.std.proofs.Common.{◌∙◌, sym, ap, arith}
-use Rattle.model_output.specs.Commands as commands
+use Rattle.std.proofs.Common.{◌∙◌, sym}
 use Rattle.acl_session.proofs.CommandLemmas.{names_step, names_done, names_all, names_stop, names_go}
 use Rattle.acl_session.proofs.commands.are_new.Goals as goal
 

@@ -1,5 +1,4 @@
-use Rattle.std.proofs.Common.{◌∙◌, sym, ap}
-use Rattle.model_output.specs.Commands as commands
+use Rattle.std.proofs.Common.{◌∙◌, sym}
 use Rattle.acl_session.proofs.CommandLemmas.{field_made, chosen_true, chosen_false}
 use Rattle.acl_session.proofs.commands.field_in.Goals as goal
 

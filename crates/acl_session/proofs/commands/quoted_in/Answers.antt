@@ -1,4 +1,4 @@
-use Rattle.std.proofs.Common.{◌∙◌, sym, ap, arith}
+use Rattle.std.proofs.Common.{◌∙◌, sym, ap}
 use Rattle.model_output.specs.Commands as commands
 use Rattle.acl_session.specs.Views.{atom_form}
 use Rattle.acl_session.proofs.NameLemmas.{quote_named}

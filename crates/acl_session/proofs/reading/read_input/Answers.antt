@@ -1,5 +1,4 @@
-use Rattle.std.proofs.Common.{◌≡◌, ◌≤◌, ◌<◌, arith, sym, ap, subst}
-use Rattle.acl_edge.specs.Outside.{Gives, IsSpent}
+use Rattle.std.proofs.Common.{◌≤◌, arith}
 use Rattle.acl_edge.proofs.EndLemmas.{Gives-nothing, Gives-then}
 use Rattle.acl_session.proofs.RunLemmas.{in_vector, input_long, input_whole}
 use Rattle.acl_session.proofs.reading.read_input.Goals as goal

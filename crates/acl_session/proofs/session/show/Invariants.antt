@@ -1,4 +1,4 @@
-use Rattle.std.proofs.Common.{◌≡◌, ◌∷◌, [], ◌++◌, map, take}
+use Rattle.std.proofs.Common.{◌≡◌, ◌∷◌, ◌++◌, map, take}
 use Rattle.std.specs.Char.{to_ascii_lowercase}
 use Rattle.acl_session.proofs.session.show.Given as goal
 

@@ -1,5 +1,4 @@
-use Rattle.std.proofs.Common.{arith, sym, ap, ◌∙◌}
-use Rattle.acl_session.specs.Views.{token_views}
+use Rattle.std.proofs.Common.{sym, ◌∙◌}
 use Rattle.acl_session.proofs.ScanLemmas.{passed, stopped, marked, not_fine, fine, start_if, start_else}
 use Rattle.acl_session.proofs.tokens.tokens_of.Goals as goal
 use Rattle.acl_session.proofs.tokens.tokens_of.Goals.{then-ends_run+in_ok-end_run+else-not-branch+in_ok-push_mark+then-byte-eq39, then-ends_run+in_ok-end_run+else-not-branch+in_ok-push_mark+else-byte-eq39, else-ends_run}

@@ -1,6 +1,5 @@
-use Rattle.std.proofs.Common.{◌≡◌, ◌+◌, ◌-◌, ◌≤◌, arith, length, drop, take, rules}
-use Rattle.std.proofs.lemmas.Result.{err_from_is_err_and}
-use Rattle.std.proofs.lemmas.List.{length-take, length-drop}
+use Rattle.std.proofs.Common.{◌≡◌, ◌+◌, ◌-◌, ◌≤◌, arith, drop, rules}
+use Rattle.std.proofs.lemmas.List.{length-take}
 use Rattle.acl_edge.proofs.EndLemmas.{Takes-more}
 use Rattle.acl_session.proofs.RunLemmas.{stopped_part}
 use Rattle.acl_session.proofs.writing.write_all.Goals as goal

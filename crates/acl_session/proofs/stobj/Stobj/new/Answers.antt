@@ -1,4 +1,3 @@
-use Rattle.std.proofs.Common.{◌∙◌, sym}
 use Rattle.acl_session.proofs.DefinedLemmas.{new_object_is}
 use Rattle.acl_session.proofs.stobj.Stobj.new.Goals as goal
 
