@@ -1,11 +1,11 @@
 -- What a word stands for stays when the heap grows.
-use Rattle.std.specs.Prelude.{◌≡◌, ℕ, ◌<◌, ◌++◌, length, take, refl}
-use Rattle.std.proofs.Common.{get_or, ◌∙◌, arith, length-append}
+use Rattle.std.specs.Prelude.{◌≡◌, ℕ, ◌<◌, ◌≤◌, ◌++◌, length, take, refl}
+use Rattle.std.proofs.Common.{get_or, sym, ap, ◌∙◌, arith, length-append}
 use Rattle.std.proofs.lemmas.List.{get_or_append_left, get_or-take, length-take, ext_get_or}
 use Rattle.model_objects.specs.Object.{Object}
 use Rattle.acl_base.specs.declared.Word.{Word}
 use Rattle.acl_base.specs.declared.Word.TheVariants.{Small, Big, Sym, Str, Cons}
-use Rattle.acl_heap.specs.Objects.{Objects, nothing, object_of, Lies, Denotes, Extends}
+use Rattle.acl_heap.specs.Objects.{Objects, nothing, object_of, reach, Lies, Denotes, Extends}
 
 pub object_of-append : (a more : Objects) (w : Word) → Lies a w → object_of (a ++ more) w ≡ object_of a w
 object_of-append a more (Small n) l = refl
@@ -13,6 +13,13 @@ object_of-append a more (Big n) l = get_or_append_left a more nothing n (omega a
 object_of-append a more (Sym s) l = refl
 object_of-append a more (Str n) l = get_or_append_left a more nothing n (omega arith)
 object_of-append a more (Cons n) l = get_or_append_left a more nothing n (omega arith)
+
+pub object_of-take : (h : Objects) (n : ℕ) (w : Word) → reach w ≤ n → object_of (take n h) w ≡ object_of h w
+object_of-take h n (Small i) l = refl
+object_of-take h n (Big k) l = get_or-take n h k nothing (omega arith)
+object_of-take h n (Sym s) l = refl
+object_of-take h n (Str k) l = get_or-take n h k nothing (omega arith)
+object_of-take h n (Cons k) l = get_or-take n h k nothing (omega arith)
 
 pub Extends-self : (h : Objects) → Extends h h
 Extends-self h = record { longer = omega arith; same = λ w l. refl }
@@ -37,5 +44,16 @@ pub take_grown : {a b : Objects} → Extends a b → take (length a) b ≡ a
 take_grown {a} {b} e = ext_get_or nothing (take (length a) b) a
     (omega (arith, length-take (length a) b, e.longer))
     (λ i l. let low : i < length a = omega (arith, length-take (length a) b, e.longer, l) in get_or-take (length a) b i nothing low ∙ read_later i e low)
+
+-- cut back to where it was marked before it grew, the heap is as it was
+pub reset_grown : {a b new : Objects} {top : ℕ} → Extends a b → top ≡ length a → new ≡ take top b → new ≡ a
+reset_grown {a} {b} e at cut = cut ∙ (ap (λ n. take n b) at ∙ take_grown e)
+
+-- a heap cut back is one that the whole heap extends
+pub Extends-take : (h : Objects) (n : ℕ) → n ≤ length h → Extends (take n h) h
+Extends-take h n l = record {
+  longer = omega (arith, length-take n h);
+  same = λ w k. sym (object_of-take h n w (omega (arith, k, length-take n h)));
+}
 
 pub ruleset growth = (Extends-then, Denotes-later)
