@@ -65,3 +65,6 @@ position_named ps ss name =
 pub package_found : {K : Type 0} (items : K → List ℕ) (ks : List K) (ps : List Package) (ss : List Symbol) (name : List ℕ) → map items ks ≡ names_of ps
     → position (λ k. bytes_eq name (items k)) ks ≡ package_number (table_of ps ss).packages name
 package_found items ks ps ss name e = position-map items (bytes_eq name) ks ∙ (ap (position (bytes_eq name)) e ∙ position_named ps ss name)
+
+pub symbol_count : (ps : List Package) (ss : List Symbol) → length (symbols_of ps ss) ≡ length ss
+symbol_count ps ss = length-map ss (symbol_of (names_of ps))

@@ -107,6 +107,14 @@ impl Symbols {
         let _ = &self.alloc;
     }
 
+    /// How many symbols there are.
+    #[tactic(auto, using(crate::proofs::FieldLemmas::symbol_count))]
+    pub fn count(&self) -> u32
+        ensures { result ≡ length self.now.symbols }
+    {
+        self.symbols.len() as u32
+    }
+
     fn symbol(&self, s: SymId) -> &Symbol
         requires { s.0 < length self.now.symbols }
         ensures { KeptSymbol self.now s.0 result.now }
