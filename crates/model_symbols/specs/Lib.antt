@@ -1,3 +1,4 @@
 pub mod Symbols
 pub mod Opening
 pub mod Growth
+pub mod Tables

@@ -1,0 +1,3 @@
+pub mod Positions
+pub mod NameLemmas
+pub mod TableLemmas
