@@ -7,7 +7,7 @@ use Rattle.std.specs.Option.{option_or}
 use Rattle.std.specs.Str.{bytes_eq}
 use Rattle.std.proofs.lemmas.Slice.Eq.{bytes_eq-Decides}
 use Rattle.std.proofs.lemmas.Bool.{and_parts}
-use Rattle.std.proofs.lemmas.Option.{unwrap_or-slice_get, slice_get-get_or}
+use Rattle.std.proofs.lemmas.Option.{unwrap_or-slice_get, slice_get-get_or, slice_get_within}
 use Rattle.model_symbols.specs.Symbols.{QualifiedName, Package, same_name, symbol_at, no_name, number_of, package_number, package_at, no_package, import_of, symbol_in, is_known, interned}
 use Rattle.model_symbols.specs.Growth.{IsSymbol, IsPackage, AreDistinct}
 use Rattle.model_symbols.specs.Tables.{AreApart}
@@ -37,6 +37,9 @@ number-Some ss s n h =
 
 pub number-None : (ss : List QualifiedName) (s : QualifiedName) (n : ℕ) → number_of ss s ≡ None → IsSymbol ss n s → ⊥
 number-None ss s n h g = true≢false (sym (same_self s) ∙ unfound (same_name s) ss n s h g)
+
+pub number_within : (ss : List QualifiedName) (s : QualifiedName) (n : ℕ) → number_of ss s ≡ Some n → n < length ss
+number_within ss s n h = slice_get_within ss n s (number-Some ss s n h)
 
 pub number-known : (ss : List QualifiedName) (s : QualifiedName) (n : ℕ) → AreDistinct ss → IsSymbol ss n s → number_of ss s ≡ Some n
 number-known ss s n d h = only_place (same_name s) ss n s h (same_self s) (λ j t g e. d j n s (g ∙ ap Some (sym ((same_name-Decides s t).0 e))) h)

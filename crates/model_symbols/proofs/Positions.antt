@@ -1,5 +1,5 @@
 -- The first place in a list at which a test passes.
-use Rattle.std.specs.Prelude.{◌≡◌, ℕ, zero, suc, ◌+◌, List, [], ◌∷◌, ◌++◌, length, Bool, true, false, Option, Some, None, slice_get, position, refl, cond}
+use Rattle.std.specs.Prelude.{◌≡◌, ℕ, zero, suc, ◌+◌, List, [], ◌∷◌, ◌++◌, length, map, Bool, true, false, Option, Some, None, slice_get, position, refl, cond}
 use Rattle.std.proofs.Common.{get_or, sym, ap, ◌∙◌, arith, true≢false, ◌⊎◌, inl, inr}
 use Rattle.std.specs.List.{position_from}
 use Rattle.std.specs.Option.{option_or}
@@ -79,3 +79,13 @@ module _ {X : Type 0} where
         go : (o : Option ℕ) → position p xs ≡ o → position p xs ≡ Some i
         go None e = absurd (true≢false (sym passes ∙ unfound xs i x e at))
         go (Some j) e = let f = found xs j e in e ∙ ap Some (only j f.0 f.1 f.2)
+
+-- ---- among the values of a function
+
+module _ {X Y : Type 0} (f : X → Y) (q : Y → Bool) where
+  from_map : (i : ℕ) (xs : List X) → position_from (λ x. q (f x)) i xs ≡ position_from q i (map f xs)
+  from_map i [] = refl
+  from_map i (x ∷ xs) = ap (cond (q (f x)) (Some i)) (from_map (i + 1) xs)
+
+  pub position-map : (xs : List X) → position (λ x. q (f x)) xs ≡ position q (map f xs)
+  position-map xs = position_from-zero (λ (x : X). q (f x)) xs ∙ (from_map 0 xs ∙ sym (position_from-zero q (map f xs)))

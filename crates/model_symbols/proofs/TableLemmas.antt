@@ -163,4 +163,7 @@ IsTable-empty = record {
   few = omega arith;
 }
 
+pub empty_table : IsTable no_table
+empty_table = IsTable-empty
+
 pub ruleset table_growth = (Extends-then, Extends-self)
