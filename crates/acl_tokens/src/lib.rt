@@ -9,10 +9,12 @@ ghost use Rattle.model_text.specs.Token.{Packages, is_bar, token_of, integer_of}
 ghost use Rattle.acl_tokens.specs.Kinds.{reading_of, reading, other_reading, bare_reading, token_in};
 
 mod letters;
+mod likeness;
 mod numerals;
 mod ratios;
 mod spelling;
 
+pub use likeness::is_like_number;
 use model_text::TextCause;
 use numerals::{Numeral, integer};
 use ratios::{are_dots, is_float, is_ratio};
