@@ -166,3 +166,6 @@ pub fn print_to<K: Sink>(
     flush(sink, &mut out)?;
     Ok(())
 }
+
+#[cfg(test)]
+mod tests;
