@@ -1,0 +1,4 @@
+pub mod TaskLemmas
+pub mod SymbolLemmas
+pub mod WriteLemmas
+pub mod TestLemmas

@@ -1,0 +1,5 @@
+use Rattle.acl_forms.specs.Growth.{Grown-heap}
+use Rattle.acl_print.proofs.tests.integer.Goals as goal
+
+pub returns-clause-grows : goal.returns-clause-grows
+returns-clause-grows c = Grown-heap c.int.ensures.grows

@@ -1,0 +1,3 @@
+pub mod Views
+pub mod Tasks
+pub mod Writing
