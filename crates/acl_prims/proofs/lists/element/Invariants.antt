@@ -1,0 +1,15 @@
+use Rattle.std.specs.Prelude.{◌≡◌}
+use Rattle.model_objects.specs.Object.{weight}
+use Rattle.model_prims.specs.Kinds.{by_number}
+use Rattle.model_prims.specs.Lists.{element}
+use Rattle.acl_heap.specs.Objects.{object_of, Lies}
+use Rattle.acl_prims.proofs.lists.element.Given as goal
+
+abbrev pub invariant-loop-first : goal.invariant-loop-first
+invariant-loop-first l = record {
+  lies : Lies l.heap l.rest;
+  same : element by_number l.left (object_of l.heap l.rest) ≡ element by_number l.fn.number (object_of l.heap l.fn.list);
+}
+
+abbrev pub decreases-loop-first : goal.decreases-loop-first
+decreases-loop-first l = weight (object_of l.heap l.rest)

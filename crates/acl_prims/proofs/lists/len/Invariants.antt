@@ -1,0 +1,14 @@
+use Rattle.std.specs.Prelude.{◌≡◌, ◌+◌}
+use Rattle.model_objects.specs.Object.{weight}
+use Rattle.model_prims.specs.Lists.{len}
+use Rattle.acl_heap.specs.Objects.{object_of, Lies}
+use Rattle.acl_prims.proofs.lists.len.Given as goal
+
+abbrev pub invariant-loop-next : goal.invariant-loop-next
+invariant-loop-next l = record {
+  lies : Lies l.heap l.rest;
+  same : l.count + len (object_of l.heap l.rest) ≡ len (object_of l.heap l.fn.list);
+}
+
+abbrev pub decreases-loop-next : goal.decreases-loop-next
+decreases-loop-next l = weight (object_of l.heap l.rest)

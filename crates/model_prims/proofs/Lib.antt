@@ -1,0 +1,9 @@
+pub mod Division
+pub mod Bits
+pub mod Same
+pub mod KnownLemmas
+pub mod GivenLemmas
+pub mod LawLemmas
+pub mod AtOnce
+pub mod NamingLemmas
+pub mod FollowLemmas

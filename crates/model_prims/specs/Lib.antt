@@ -1,0 +1,10 @@
+pub mod Kinds
+pub mod Numbers
+pub mod Lists
+pub mod Guards
+pub mod Values
+pub mod Applied
+pub mod Rows
+pub mod Known
+pub mod Laws
+pub mod Naming

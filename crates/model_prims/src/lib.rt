@@ -1,0 +1,11 @@
+//! The primitives: their table, and the guard, value and stops of each. Definitions, and laws about them.
+#![tactic(auto)]
+
+mod laws;
+mod prim;
+
+pub use laws::{
+    division_divides, equality_is_equality, large_is_told_at_once, logic_is_bitwise, shifts_scale,
+    values_are_known,
+};
+pub use prim::{Arithmetic, Listing, Naming, Prim, Recognizer, Relation};
