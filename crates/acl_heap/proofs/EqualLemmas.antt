@@ -1,5 +1,5 @@
 -- A list of pairs to compare, the newest at its end.
-use Rattle.std.specs.Prelude.{◌≡◌, ◌≢◌, ◌+◌, ◌<◌, List, [], ◌∷◌, ◌++◌}
+use Rattle.std.specs.Prelude.{IsTrue, ◌↔◌, Bool, ◌≡◌, ◌≢◌, ◌+◌, ◌<◌, List, [], ◌∷◌, ◌++◌}
 use Rattle.std.proofs.Common.{sym, ap, ◌∙◌, arith}
 use Rattle.model_objects.specs.Object.{Object, Integer, Symbol, Text, Pair, weight}
 use Rattle.acl_base.specs.declared.Word.{Word}
@@ -72,3 +72,10 @@ pop_parts {h} ps x y a b d e l r = record {
 pub parts_smaller : {h : Objects} (ps : List (Word × Word)) (x y a b d e : Word) → ArePairs h x y a b d e → work_of h ((ps ++ (d, e) ∷ []) ++ (a, b) ∷ []) < work_of h (ps ++ (x, y) ∷ [])
 parts_smaller {h} ps x y a b d e r =
     omega (arith, work_of-push h (ps ++ (d, e) ∷ []) (a, b), work_of-push h ps (d, e), work_of-push h ps (x, y), ap weight r.left)
+
+-- two pairs are the same where their parts are
+pub parts_same : {h : Objects} {x y a b d e : Word} → ArePairs h x y a b d e → (same : Bool) → (IsTrue same ↔ AllSame h ((d, e) ∷ (a, b) ∷ [])) → (IsTrue same ↔ (object_of h x ≡ object_of h y))
+parts_same r same k = (
+  (λ t. let s = k.0 t in both r s.1.0 s.0),
+  (λ q. let c = cars r q in k.1 (c.1, (c.0, tt))),
+)

@@ -50,14 +50,29 @@ impl Heap {
         }
     }
 
-    /// Whether the two words stand for the same object. Equal words are at once.
+    /// Whether the two words stand for the same object. Equal words do, at once, and only pairs take memory.
     pub fn equal(&self, a: Word, b: Word) -> Result<bool, AllocError>
         requires left { Lies self.now a }
         requires right { Lies self.now b }
         ensures { IfOk result (λ yes. IsTrue yes ↔ (object_of self.now a ≡ object_of self.now b)) }
     {
-        let mut work: Vec<(Word, Word)> = Vec::new(self.alloc);
-        work.push((a, b))?;
+        match self.compare(a, b) {
+            Compared::Same => Ok(true),
+            Compared::Apart => Ok(false),
+            Compared::Parts(cars, cdrs) => {
+                let mut work = Vec::new(self.alloc);
+                work.push(cdrs)?;
+                work.push(cars)?;
+                let yes = self.all_equal(work)?;
+                Ok(yes)
+            }
+        }
+    }
+
+    fn all_equal(&self, mut work: Vec<(Word, Word)>) -> Result<bool, AllocError>
+        requires { AllLie self.now work.items }
+        ensures { IfOk result (λ yes. IsTrue yes ↔ AllSame self.now work.items) }
+    {
         while let Some((x, y)) = work.pop() {
             match self.compare(x, y) {
                 Compared::Same => {}

@@ -10,23 +10,27 @@ ghost use Rattle.acl_heap.specs.Seeing.{Sees, IsSmallest};
 ghost use Rattle.acl_heap.specs.Cells.{Reads, IsCell, object_at};
 
 mod equality;
+#[cfg(test)]
+mod tests;
 
 use acl_base::{SymId, Word};
 use std::alloc::{AllocError, AllocFailed, Global};
 use std::marker::Model;
+use thiserror::Error;
 
 /// The largest weight of a value.
 pub const MAX_WEIGHT: u64 = 1_048_576;
 
 /// Why a heap did not take an object.
-#[derive(Debug, Drop)]
+#[derive(Debug, Drop, Error)]
 pub enum HeapFault {
     /// The object would be heavier than a value may be.
+    #[error("an object of weight {weight} is too large")]
     TooLarge {
         /// Its weight.
         weight: u64,
     },
-    /// Memory was refused.
+    #[error("memory was refused")]
     Memory,
 }
 

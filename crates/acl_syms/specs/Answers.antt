@@ -57,3 +57,8 @@ PackageFault t name imports (ImportClash first second) =
     (package_number t.packages name ≡ None) × (import_clash (symbols_at t.symbols (numbers imports)) ≡ Some (symbol_at t.symbols first.0, symbol_at t.symbols second.0))
     × (first.0 < length t.symbols) × (second.0 < length t.symbols)
 PackageFault t name imports Memory = package_number t.packages name ≡ None
+
+-- the table has no package of the name, and no two imports clash
+pub record CanTake (t : Table) (name : List ℕ) (imports : List SymId) : Type 0 where
+  pub fresh : package_number t.packages name ≡ None
+  pub no_clash : import_clash (symbols_at t.symbols (numbers imports)) ≡ None

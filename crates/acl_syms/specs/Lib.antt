@@ -1,2 +1,4 @@
 pub mod Answers
 pub mod Fields
+pub mod Imports
+pub mod Opening

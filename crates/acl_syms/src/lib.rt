@@ -10,6 +10,8 @@ ghost use Rattle.acl_syms.specs.Answers.{Interns, InternFault, InternsNamed, Nam
 ghost use Rattle.acl_syms.specs.Fields.{KeptSymbol, KeptPackage};
 
 mod interning;
+mod opening;
+mod packages;
 
 use acl_base::{PkgId, SymId};
 use indexmap::{IndexMap, IndexSet};

@@ -53,6 +53,20 @@ module _ {X : Type 0} where
     pub unfound : (xs : List X) (k : ℕ) (x : X) → position p xs ≡ None → slice_get xs k ≡ Some x → p x ≡ false
     unfound xs k x h g = from_none 0 xs k x (sym (position_from-zero p xs) ∙ h) g
 
+    from_later : (i j : ℕ) (xs : List X) → position_from p i xs ≡ None → position_from p j xs ≡ None
+    from_later i j [] h = refl
+    from_later i j (x ∷ xs) h = go (p x) h (from_later (i + 1) (j + 1) xs)
+      where
+        go : (b : Bool) → cond b (Some i) (position_from p (i + 1) xs) ≡ None → (position_from p (i + 1) xs ≡ None → position_from p (j + 1) xs ≡ None) → cond b (Some j) (position_from p (j + 1) xs) ≡ None
+        go true h rest = cc
+        go false h rest = rest h
+
+    -- what is nowhere in a list is nowhere in its rest
+    pub none_later : (x : X) (xs : List X) → p x ≡ false → position p (x ∷ xs) ≡ None → position p xs ≡ None
+    none_later x xs e h =
+        position_from-zero p xs
+        ∙ from_later 1 0 xs (sym (ap (λ b. cond b (Some 0) (position_from p 1 xs)) e) ∙ (sym (position_from-zero p (x ∷ xs)) ∙ h))
+
     -- ---- one more element
 
     from_push : (i : ℕ) (xs : List X) (y : X) → position_from p i (xs ++ y ∷ []) ≡ option_or (position_from p i xs) (cond (p y) (Some (i + length xs)) None)

@@ -1,0 +1,3 @@
+pub mod Forms
+pub mod Growth
+pub mod Laws
