@@ -1,14 +1,12 @@
 -- Blanks and comments leave everything as it was.
-use Rattle.std.specs.Prelude.{◌≡◌, ℕ, ◌+◌, ◌-◌, ◌<◌, ◌≤◌, ◌==◌, List, [], ◌∷◌, ◌++◌, length, Bool, true, false, ◌&&◌, ◌||◌, not, if◌then◌else◌, refl, ◌⊎◌}
-use Rattle.std.specs.List.{list_all}
-use Rattle.std.proofs.Common.{sym, ap, ◌∙◌, arith, inl, inr, length-append}
+use Rattle.std.specs.Prelude.{◌≡◌, ℕ, ◌+◌, ◌-◌, ◌<◌, ◌≤◌, ◌==◌, List, [], ◌∷◌, ◌++◌, length, Bool, true, false, ◌&&◌, ◌||◌, not, if◌then◌else◌, refl}
+use Rattle.std.proofs.Common.{ap, ◌∙◌, arith, length-append}
 use Rattle.std.proofs.lemmas.List.{append_assoc}
-use Rattle.std.proofs.lemmas.Bool.{lt-ltb}
-use Rattle.std.proofs.lemmas.Bool.Decides.{nat_tests, eqb_tells}
+use Rattle.std.proofs.lemmas.Bool.Decides.{nat_tests}
 use Rattle.model_symbols.specs.Symbols.{QualifiedName}
-use Rattle.model_text.specs.Token.{Packages, is_empty, is_blank, ends_token, is_bar}
+use Rattle.model_text.specs.Token.{Packages, is_empty, is_blank, ends_token}
 use Rattle.model_text.specs.Parts.{Part}
-use Rattle.model_text.specs.Next.{Inside, Free, Bars, BarsEscape, String, StringEscape, Line, Block, BlockHash, BlockBar, AfterComma, State, Step, Goes, after, step, most_input, most_bytes, first_of, has_room, goes_on, is_after_comma, taken_inside, is_comment, is_free, mark, in_block, block_ended}
+use Rattle.model_text.specs.Next.{Inside, Free, Bars, BarsEscape, String, StringEscape, Line, Block, BlockHash, BlockBar, AfterComma, State, Goes, after, step, most_input, most_bytes, first_of, has_room, goes_on, is_after_comma, taken_inside, is_comment, is_free, mark, in_block, block_ended}
 use Rattle.model_text.specs.Spelling.{Gap, nothing, blank, line, block, is_line, marks_block, is_block_mark}
 use Rattle.model_text.specs.Spelling as spelling
 use Rattle.model_text_laws.proofs.Going.{st, free, begin, begin_is, going, room_of, first_token, goes_on_room, step_inside}
@@ -213,9 +211,9 @@ module _ (packages : Packages) (ended : Bool) where
       step_inside packages ps Free hash (at + 1) (begin ps at first) symbols 124 refl (omega (arith, j, l))
       ∙ (goes_on_room (Block 1) [] s (room_of s (at + 1) (omega (arith, f, b)))
       ∙ ap (λ n. Goes (st ps (Block 1) [] ((at + 1) + 1) n symbols)) f) where
-    hash_room : (qs : List Part) (at to first : ℕ) → at + 1 < to → Within qs to first → (at + 1) - begin qs at first < most_bytes
-    hash_room [] at to first j r = omega arith
-    hash_room (p ∷ qs) at to first j r = omega (arith, j, r)
+        hash_room : (qs : List Part) (at to first : ℕ) → at + 1 < to → Within qs to first → (at + 1) - begin qs at first < most_bytes
+        hash_room [] at to first j r = omega arith
+        hash_room (p ∷ qs) at to first j r = omega (arith, j, r)
 
   -- where the outermost form begins stays the same, in a form
   pub record Passed (ps : List Part) (at first : ℕ) (symbols : List QualifiedName) (gap : List ℕ) : Type 0 where

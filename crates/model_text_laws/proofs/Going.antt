@@ -1,12 +1,12 @@
 -- What bytes lead to, with the end of the input behind them.
-use Rattle.std.specs.Prelude.{◌≡◌, ℕ, ◌+◌, ◌-◌, ◌<◌, ◌≤◌, List, [], ◌∷◌, ◌++◌, length, Bool, true, false, ◌&&◌, ◌||◌, refl}
-use Rattle.std.proofs.Common.{sym, ap, ◌∙◌, arith}
+use Rattle.std.specs.Prelude.{◌≡◌, ℕ, ◌+◌, ◌-◌, ◌<◌, List, [], ◌∷◌, length, Bool, true, false, ◌&&◌, ◌||◌, refl}
+use Rattle.std.proofs.Common.{◌∙◌, arith}
 use Rattle.std.proofs.lemmas.Bool.{lt-ltb}
 use Rattle.std.proofs.lemmas.Bool.Decides.{nat_tests}
 use Rattle.model_symbols.specs.Symbols.{QualifiedName}
 use Rattle.model_text.specs.Token.{Packages, is_empty}
 use Rattle.model_text.specs.Parts.{Part, Put, Parts, Whole, Bad}
-use Rattle.model_text.specs.Next.{Inside, Free, State, Step, Goes, Gives, Fails, after, step, run, ended_inside, ended_step, most_input, most_bytes, first_of, is_idle, has_room, whole, counted, goes_on, placed, is_after_comma, taken_inside, is_comment}
+use Rattle.model_text.specs.Next.{Inside, Free, State, Step, Goes, Gives, Fails, after, step, run, ended_step, most_input, most_bytes, first_of, has_room, whole, counted, goes_on, placed, is_after_comma, taken_inside, is_comment}
 
 abbrev pub st : List Part → Inside → List ℕ → ℕ → ℕ → List QualifiedName → State
 st ps i token at first symbols = record { parts = ps; inside = i; token = token; at = at; first = first; symbols = symbols }

@@ -1,3 +1,14 @@
 pub mod Going
 pub mod Gaps
 pub mod Tokens
+pub mod Templates
+pub mod Read
+pub mod Found
+pub mod Names
+pub mod Colons
+pub mod Printed
+pub mod Back
+pub mod Sound
+pub mod Holding
+pub mod Bytes
+pub mod Inner

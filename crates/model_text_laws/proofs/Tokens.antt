@@ -1,20 +1,21 @@
 -- A token, and a string, from its first byte to its last.
-use Rattle.std.specs.Prelude.{◌≡◌, ℕ, ◌+◌, ◌-◌, ◌<◌, ◌≤◌, ◌==◌, nat_le, List, [], ◌∷◌, ◌++◌, length, Bool, true, false, ◌&&◌, ◌||◌, not, if◌then◌else◌, refl, ◌⊎◌, None}
+use Rattle.std.specs.Prelude.{◌≡◌, ℕ, ◌+◌, ◌-◌, ◌<◌, ◌≤◌, ◌==◌, nat_le, List, [], ◌∷◌, ◌++◌, length, Bool, true, false, ◌&&◌, ◌||◌, not, if◌then◌else◌, refl, None}
 use Rattle.std.specs.Str.{bytes_eq}
-use Rattle.std.proofs.Common.{sym, ap, ◌∙◌, arith, inl, inr, length-append, subst}
+use Rattle.std.proofs.Common.{sym, ap, ◌∙◌, arith, subst}
 use Rattle.std.proofs.lemmas.List.{append_assoc, append-nil, length_push}
 use Rattle.std.proofs.lemmas.Bool.Decides.{nat_tests}
 use Rattle.model_objects.specs.Object.{Text, weight, max_weight}
 use Rattle.model_symbols.specs.Symbols.{QualifiedName}
 use Rattle.model_text.specs.Token.{Form, Packages, is_empty, is_bar, is_graphic, ends_token, Place, Outside, Between, Escaped, token_of, with_room}
 use Rattle.model_text.specs.Backquote.{Plain}
-use Rattle.model_text.specs.Parts.{Part, Put, Parts, Whole, Bad, full_dot, unless_full, delivered}
-use Rattle.model_text.specs.Next.{Inside, Free, Bars, BarsEscape, String, StringEscape, Line, Block, BlockHash, BlockBar, AfterComma, State, Step, Goes, Gives, Fails, after, step, most_input, most_bytes, first_of, has_room, goes_on, counted, whole, mark, letter, token_put, token_ended, ended_step, taken_inside, is_after_comma, is_open_question}
+use Rattle.model_text.specs.Parts.{Part, Put, Parts, Whole, Bad, full_dot, delivered}
+use Rattle.model_text.specs.Next.{Inside, Free, Bars, BarsEscape, String, StringEscape, Line, Block, BlockHash, BlockBar, AfterComma, State, Step, Goes, Gives, Fails, after, step, most_input, most_bytes, first_of, goes_on, whole, mark, letter, token_put, token_ended, ended_step, taken_inside, is_after_comma, is_open_question}
 use Rattle.model_text.specs.Spelling.{IsToken, goes_on_as_token, begins_block, Quoted}
 use Rattle.model_text.specs.Spelling as spelling
 use Rattle.model_text.specs.declared.TextCause.TheVariants.{TooLarge}
+use Rattle.model_text_laws.specs.Laws.{Stops}
 use Rattle.model_text_laws.proofs.Going.{st, free, begin, done, going, room_of, first_token, goes_on_room, step_inside, counted_done}
-use Rattle.model_text_laws.proofs.Gaps.{mark_step, goes_on_step, free_room}
+use Rattle.model_text_laws.proofs.Gaps.{mark_step, goes_on_step}
 
 both : (s t : Bool) → (s && t) ≡ true → (s ≡ true) × (t ≡ true)
 both true t h = (refl, h)
@@ -86,12 +87,6 @@ inside_between false false = refl
 pub record Upto (to first : ℕ) : Type 0 where
   pub input : to ≤ most_input
   pub bytes : to ≤ first + most_bytes
-
--- the delimiter that a form needs is there, or the input ends
-abbrev pub Stops : Bool → Bool → ℕ → List ℕ → Type 0
-Stops ended false at rest = Unit {0}
-Stops ended true at [] = ended ≡ true
-Stops ended true at (b ∷ rest) = (ends_token b ≡ true) × (at < most_input)
 
 after_whole : (f : Form) (at first : ℕ) (symbols : List QualifiedName) (k : State → Step) → after (whole f at first symbols) k ≡ whole f at first symbols
 after_whole f at first symbols k = go (nat_le (weight f) max_weight) where
@@ -228,7 +223,7 @@ module _ (packages : Packages) (ended : Bool) where
   -- a whole token, which does this
   pub token_going : (bs : List ℕ) (ps : List Part) (at first : ℕ) (symbols symbols' : List QualifiedName) (p : Put) (rest : List ℕ)
       → IsToken bs → full_dot ps ≡ None → Upto (at + length bs) (begin ps at first) → Stops ended true (at + length bs) rest
-      → ((s : State) → s.parts ≡ ps → token_put (with_room symbols (token_of packages bs)) at s ≡ done p s.at s.first symbols')
+      → ((s : State) → s.parts ≡ ps → s.symbols ≡ symbols → token_put (with_room symbols (token_of packages bs)) at s ≡ done p s.at s.first symbols')
       → going packages ended (free ps at first symbols) (bs ++ rest) ≡ after (done p (at + length bs) (begin ps at first) symbols') (λ t. going packages ended t rest)
   token_going bs ps at first symbols symbols' p rest h d r w does =
       let first' = begin ps at first in
@@ -236,7 +231,7 @@ module _ (packages : Packages) (ended : Bool) where
       let z : (at + length bs) - length bs ≡ at = omega arith in
       letters_going bs ps at first symbols rest h d r
       ∙ token_stops bs ps (at + length bs) first' symbols symbols' p rest h.some w
-      (ap (λ n. token_put (with_room symbols (token_of packages bs)) n s) z ∙ does s refl)
+      (ap (λ n. token_put (with_room symbols (token_of packages bs)) n s) z ∙ does s refl refl)
 
   -- ---- strings
 
