@@ -10,6 +10,7 @@ mod tokens;
 
 pub use acl_lexemes::{Frame, Lexeme, Placed, Progress};
 pub use model_text::{TextCause, TextFault};
+pub use scanning::advance;
 
 
 /// What the bytes so far end in.

@@ -8,6 +8,7 @@ ghost use Rattle.model_text.specs.Parts as parts;
 ghost use Rattle.model_text.specs.Next.{counted, is_open_question, letter, mark, comma_begun, free_byte};
 ghost use Rattle.model_text.specs.Next as next;
 ghost use Rattle.acl_lexemes.specs.Lexemes.{lexeme_at, parts_of, IsKnown};
+ghost use Rattle.acl_lexemes.specs.Opening.{LeavesOpen};
 ghost use Rattle.acl_scan.specs.Built.{state_at, IsBuilt, packages_of, Grows};
 ghost use Rattle.acl_scan.specs.Scanning.{Does, IsNear};
 
@@ -55,6 +56,7 @@ pub fn marked_at(
     requires known { IsKnown (length syms.now.symbols) lexeme }
     requires within { at < 67108864 }
     ensures does { Does syms.now built.new (counted (put (lexeme_at syms.now.symbols lexeme) at (parts_of syms.now.symbols built.old.lexemes.items)) next.Free [] at (state_at syms.now built.old)) result }
+    ensures leaves { LeavesOpen built.new.frames.items result }
     ensures at { OnOk result (built.new.at ≡ at + 1) }
 {
     let room = room_at(built, syms, at);

@@ -7,6 +7,7 @@ ghost use Rattle.model_text.specs.Parts.{put};
 ghost use Rattle.model_text.specs.Next.{placed, token_ended};
 ghost use Rattle.acl_tokens.specs.Kinds.{token_in, reading};
 ghost use Rattle.acl_lexemes.specs.Lexemes.{lexeme_at, parts_of, IsKnown};
+ghost use Rattle.acl_lexemes.specs.Opening.{LeavesOpen};
 ghost use Rattle.acl_scan.specs.Built.{state_at, IsBuilt, packages_of, Grows};
 ghost use Rattle.acl_scan.specs.Scanning.{Does};
 ghost use Rattle.acl_scan.specs.Tokens.{Stands, IsKnownStanding, lexeme_for};
@@ -93,6 +94,7 @@ fn place(
     requires built { IsBuilt syms.now built.old }
     requires known { IsKnown (length syms.now.symbols) lexeme }
     ensures does { Does syms.now built.new (placed (put (lexeme_at syms.now.symbols lexeme) start (parts_of syms.now.symbols built.old.lexemes.items)) syms.now.symbols (state_at syms.now built.old)) result }
+    ensures leaves { LeavesOpen built.new.frames.items result }
     ensures at { OnOk result (built.new.at ≡ built.old.at) }
 {
     let progress = add(&mut built.frames, &mut built.lexemes, syms, lexeme, start)?;
@@ -112,6 +114,7 @@ pub fn end_token(
     requires package { current.0 < length syms.old.packages }
     ensures grows { Grows syms.old syms.new }
     ensures does { Does syms.new built.new (token_ended (packages_of syms.old current) (state_at syms.old built.old)) result }
+    ensures leaves { 0 < length built.old.token.items → LeavesOpen built.new.frames.items result }
     ensures at { OnOk result (built.new.at ≡ built.old.at) }
 {
     if built.token.is_empty() {

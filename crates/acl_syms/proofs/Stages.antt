@@ -2,7 +2,7 @@
 use Rattle.std.specs.Prelude.{◌≡◌, ℕ, ◌<◌, ◌≤◌, ◌+◌, List, [], ◌∷◌, ◌++◌, length, map, None, true, refl}
 use Rattle.std.proofs.Common.{sym, ap, ◌∙◌, arith, subst, length-append}
 use Rattle.model_symbols.specs.Symbols.{QualifiedName, Table, symbol_in, all_interned, import_clash, most_symbols}
-use Rattle.model_symbols.specs.Opening.{words, common_lisp_text, acl2_text, common_lisp_symbols, acl2_symbols, symbols_of, common_lisp, keyword, acl2, hidden, without_imports, opening}
+use Rattle.model_symbols.specs.Opening.{acl2_package, words, common_lisp_text, acl2_text, common_lisp_symbols, acl2_symbols, symbols_of, common_lisp, keyword, acl2, hidden, without_imports, opening}
 use Rattle.model_symbols.specs.Tables.{with_package, symbols_at}
 use Rattle.acl_base.specs.declared.SymId.{SymId}
 use Rattle.acl_syms.specs.Answers.{numbers, AreKnown, package_with, CanTake}
@@ -76,7 +76,7 @@ acl2_stage names e =
     ∙ ap (λ (ss : List QualifiedName). record { packages = full_packages.packages; symbols = ss }) acl2_apart
 
 pub hidden_stage : with_all acl2_table (names_in acl2_table 3 ((86 ∷ []) ∷ [])) ≡ opening
-unfolding acl2_table full_packages opening common_lisp_symbols common_lisp_text acl2_symbols acl2_text
+unfolding acl2_table full_packages opening acl2_package common_lisp_symbols common_lisp_text acl2_symbols acl2_text
 hidden_stage = refl
 
 acl2_count : length acl2_symbols ≡ 76
