@@ -1,5 +1,5 @@
 -- What is known of what has been read.
-use Rattle.std.specs.Prelude.{◌≡◌, ◌≢◌, ℕ, ◌-◌, ◌<◌, ◌≤◌, Bool, false, if◌then◌else◌, Ok, List, [], ◌∷◌, length, map, Some, None, slice_get, unwrap_or, refl}
+use Rattle.std.specs.Prelude.{◌≡◌, ℕ, ◌-◌, ◌<◌, Bool, false, if◌then◌else◌, Ok, List, [], ◌∷◌, length, map, unwrap_or, refl}
 use Rattle.std.proofs.Common.{sym, ap, ◌∙◌, arith, get_or}
 use Rattle.std.proofs.lemmas.Option.{slice_get-get_or}
 use Rattle.model_objects.specs.Object.{Integer, Symbol}
@@ -128,7 +128,7 @@ token_step t u b p x l bytes start g i some e f k h =
     let three : token_put (tok bytes) start s ≡ token_put (token_for u.symbols x) start s = ap (λ y. token_put y start s) h.0 in
     let four = put_standing u.symbols x start s (h.1 ∙ ap (symbols_behind t.symbols) h.0) in
     let five : placed (put (lexeme_at u.symbols (lexeme_for x)) start (parts_of t.symbols b.lexemes.items)) u.symbols s ≡ placed (put (lexeme_at u.symbols l) start (parts_of t.symbols b.lexemes.items)) u.symbols s
-        = ap (λ y. placed (put (lexeme_at u.symbols y) start (parts_of t.symbols b.lexemes.items)) u.symbols s) (sym k) in
+    = ap (λ y. placed (put (lexeme_at u.symbols y) start (parts_of t.symbols b.lexemes.items)) u.symbols s) (sym k) in
     let six : placed (put (lexeme_at u.symbols l) start (parts_of t.symbols b.lexemes.items)) u.symbols s ≡ placed (put (lexeme_at u.symbols l) start (parts_of u.symbols b.lexemes.items)) u.symbols s
-        = ap (λ ps. placed (put (lexeme_at u.symbols l) start ps) u.symbols s) (sym (parts_later g i.opens)) in
+    = ap (λ ps. placed (put (lexeme_at u.symbols l) start ps) u.symbols s) (sym (parts_later g i.opens)) in
     one ∙ (two ∙ (three ∙ (four ∙ (five ∙ (six ∙ placed_same (put (lexeme_at u.symbols l) start (parts_of u.symbols b.lexemes.items)) u.symbols s (state_at u b) refl refl)))))

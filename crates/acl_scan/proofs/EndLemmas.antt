@@ -1,6 +1,6 @@
 -- The end of the input.
-use Rattle.std.specs.Prelude.{◌≡◌, ℕ, ◌<◌, length, List, refl}
-use Rattle.std.proofs.Common.{sym, ap, ◌∙◌, arith}
+use Rattle.std.specs.Prelude.{◌≡◌, ◌<◌, length}
+use Rattle.std.proofs.Common.{arith}
 use Rattle.std.proofs.lemmas.Bool.Decides.{nat_tests}
 use Rattle.model_symbols.specs.Symbols.{Table}
 use Rattle.model_text.specs.Next.{State, at_end, Faulty}

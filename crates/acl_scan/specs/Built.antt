@@ -1,11 +1,11 @@
 -- What has been read of the form at hand, seen as what the definition has read.
-use Rattle.std.specs.Prelude.{◌≡◌, ℕ, ◌≤◌, List, length}
+use Rattle.std.specs.Prelude.{◌≡◌, ℕ, ◌≤◌}
 use Rattle.model_symbols.specs.Symbols.{Table}
 use Rattle.model_symbols.specs.Growth.{Extends}
 use Rattle.model_text.specs.Token.{Packages}
 use Rattle.model_text.specs.Next as next
 use Rattle.model_text.specs.Next.{State, most_input}
-use Rattle.acl_lexemes.specs.Lexemes.{parts_of, AreKnown}
+use Rattle.acl_lexemes.specs.Lexemes.{parts_of}
 use Rattle.acl_lexemes.specs.Opening.{IsOpen}
 use Rattle.acl_base.specs.declared.PkgId.{PkgId}
 use Rattle.acl_scan.specs.declared.Built.{Built}

@@ -1,11 +1,10 @@
 -- What comes of bytes.
-use Rattle.std.specs.Prelude.{◌≡◌, ◌≢◌, ℕ, ◌+◌, ◌≤◌, List, Bool, true, false, if◌then◌else◌, Result, Ok, Err, Option, Some, None}
-use Rattle.model_symbols.specs.Symbols.{QualifiedName, Table, symbol_at, interned}
+use Rattle.std.specs.Prelude.{◌≡◌, ◌≢◌, ℕ, ◌+◌, ◌≤◌, Bool, if◌then◌else◌, Result, Ok, Err}
+use Rattle.model_symbols.specs.Symbols.{Table, symbol_at, interned}
 use Rattle.model_text.specs.Token.{Token, Name, Wrong, with_room}
-use Rattle.model_text.specs.Next.{Step, Goes, Fails, whole, Next, Nothing, End, Faulty, answer, ended_step}
+use Rattle.model_text.specs.Next.{Step, Goes, Fails, whole, Nothing, End, Faulty, answer, ended_step}
 use Rattle.model_text.specs.Token.{Packages}
 use Rattle.model_text.specs.declared.TextFault.{TextFault}
-use Rattle.model_text.specs.declared.TextCause.{TextCause}
 use Rattle.model_text.specs.declared.TextCause.TheVariants.{Memory}
 use Rattle.acl_base.specs.declared.SymId.{SymId}
 use Rattle.acl_lexemes.specs.declared.Progress.{Progress}

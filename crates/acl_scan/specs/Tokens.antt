@@ -1,5 +1,5 @@
 -- What a token stands for.
-use Rattle.std.specs.Prelude.{◌≡◌, ◌≢◌, ℕ, ◌<◌, List, length, Result, Ok, Err}
+use Rattle.std.specs.Prelude.{◌≡◌, ◌≢◌, ℕ, ◌<◌, List, Result, Ok, Err}
 use Rattle.model_symbols.specs.Symbols.{QualifiedName, Table, symbol_at, interned}
 use Rattle.model_text.specs.Token as token
 use Rattle.model_text.specs.Token.{Token, with_room}

@@ -87,11 +87,7 @@ pub fn go_on(built: &mut Built, syms: &Symbols, inside: Inside) -> Result<Progre
 }
 
 /// The byte only goes on, and no token has begun behind it.
-pub fn go_on_bare(
-    built: &mut Built,
-    syms: &Symbols,
-    inside: Inside,
-) -> Result<Progress, TextFault>
+pub fn go_on_bare(built: &mut Built, syms: &Symbols, inside: Inside) -> Result<Progress, TextFault>
     requires built { IsBuilt syms.now built.old }
     requires within { built.old.at < 67108864 }
     requires deep { least_at inside ≤ built.old.at + 1 }

@@ -12,7 +12,6 @@ pub use acl_lexemes::{Frame, Lexeme, Placed, Progress};
 pub use model_text::{TextCause, TextFault};
 pub use scanning::advance;
 
-
 /// What the bytes so far end in.
 #[derive(Clone, Copy, Debug)]
 pub enum Inside {

@@ -90,11 +90,7 @@ fn conclude_free(
 
 // The input ends, and with it the question what a comma is.
 #[tactic(auto, using(crate::proofs::EndLemmas::unfinished_parts))]
-fn conclude_comma(
-    built: &mut Built,
-    syms: &Symbols,
-    current: PkgId,
-) -> Result<Progress, TextFault>
+fn conclude_comma(built: &mut Built, syms: &Symbols, current: PkgId) -> Result<Progress, TextFault>
     requires built { IsBuilt syms.now built.old }
     requires comma { built.old.inside ≡ Inside.AfterComma }
     ensures advances { Advances (packages_of syms.now current) syms.now (Goes (state_at syms.now built.old)) true built.new result }
