@@ -2,7 +2,7 @@
 use Rattle.std.specs.Prelude.{◌≡◌, ◌≢◌, ℕ, ◌+◌, ◌≤◌, Bool, if◌then◌else◌, Result, Ok, Err}
 use Rattle.model_symbols.specs.Symbols.{Table, symbol_at, interned}
 use Rattle.model_text.specs.Token.{Token, Name, Wrong, with_room}
-use Rattle.model_text.specs.Next.{Step, Goes, Fails, whole, Nothing, End, Faulty, answer, ended_step}
+use Rattle.model_text.specs.Next.{Step, Goes, Fails, whole, most_input, Nothing, End, Faulty, answer, ended_step}
 use Rattle.model_text.specs.Token.{Packages}
 use Rattle.model_text.specs.declared.TextFault.{TextFault}
 use Rattle.model_text.specs.declared.TextCause.TheVariants.{Memory}
@@ -21,7 +21,7 @@ form_step t b = whole (form_of t.symbols b.lexemes.items) b.at b.first t.symbols
 -- what came is the step
 abbrev pub Does : Table → Built → Step → Result Progress TextFault → Type 0
 Does t b s (Ok Going) = (s ≡ Goes (state_at t b)) × IsBuilt t b
-Does t b s (Ok Ended) = (s ≡ form_step t b) × IsForm t.symbols b.lexemes.items
+Does t b s (Ok Ended) = (s ≡ form_step t b) × IsForm t.symbols b.lexemes.items × (b.at ≤ most_input)
 Does t b s (Err e) = IsFault s Fails e
 
 -- the token is a symbol, which has become known under this number, or it is wrong
@@ -37,5 +37,5 @@ IsNear old new n Ended = (old ≤ new) × (new ≤ old + n)
 -- what comes of bytes that lead to a step, and of the end of the input behind them
 abbrev pub Advances : Packages → Table → Step → Bool → Built → Result Progress TextFault → Type 0
 Advances packages t s ended b (Ok Going) = (answer ended (ended_step packages ended s) ≡ (if ended then End else Nothing)) × (s ≡ Goes (state_at t b)) × IsBuilt t b
-Advances packages t s ended b (Ok Ended) = (ended_step packages ended s ≡ form_step t b) × IsForm t.symbols b.lexemes.items
+Advances packages t s ended b (Ok Ended) = (ended_step packages ended s ≡ form_step t b) × IsForm t.symbols b.lexemes.items × (b.at ≤ most_input)
 Advances packages t s ended b (Err e) = IsFault (answer ended (ended_step packages ended s)) Faulty e
