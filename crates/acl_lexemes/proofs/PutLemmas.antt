@@ -23,7 +23,7 @@ use Rattle.acl_lexemes.specs.Frames as frames
 use Rattle.acl_lexemes.specs.Frames.{FramePut, Frames, Done, Wrong, frame_of, frames_of, shaped, frame_put, inmost_first}
 use Rattle.acl_lexemes.specs.Opening.{IsFault, PutsFrames, IsOpen, IsForm, Puts}
 
-same_backquote : (ps : List Part) → parts.in_backquote ps ≡ frames.in_backquote (frames_of ps)
+pub same_backquote : (ps : List Part) → parts.in_backquote ps ≡ frames.in_backquote (frames_of ps)
 same_backquote [] = refl
 same_backquote (Quoted ∷ ps) = same_backquote ps
 same_backquote (Backquoted ∷ ps) = refl

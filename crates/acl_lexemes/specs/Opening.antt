@@ -1,5 +1,5 @@
 -- What has been read of a form that is open.
-use Rattle.std.specs.Prelude.{◌≡◌, ◌≢◌, ℕ, List, length, Result, Ok, Err}
+use Rattle.std.specs.Prelude.{◌<◌, ◌≡◌, ◌≢◌, ℕ, List, length, Result, Ok, Err}
 use Rattle.model_symbols.specs.Symbols.{QualifiedName}
 use Rattle.model_text.specs.Parts.{Put, Parts, Whole, Bad}
 use Rattle.model_text.specs.declared.TextFault.{TextFault}
@@ -38,3 +38,9 @@ abbrev pub Puts : List QualifiedName → List Frame → List Placed → Put → 
 Puts symbols frames lexemes put (Ok Going) = (put ≡ Parts (parts_of symbols lexemes)) × IsOpen symbols frames lexemes
 Puts symbols frames lexemes put (Ok Ended) = (put ≡ Whole (form_of symbols lexemes)) × IsForm symbols lexemes
 Puts symbols frames lexemes put (Err e) = IsFault put Bad e
+
+-- where the form goes on, a part is open
+abbrev pub LeavesOpen : List Frame → Result Progress TextFault → Type 0
+LeavesOpen frames (Ok Going) = 0 < length frames
+LeavesOpen frames (Ok Ended) = Unit {0}
+LeavesOpen frames (Err e) = Unit {0}

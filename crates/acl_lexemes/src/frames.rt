@@ -3,7 +3,7 @@
 ghost use Rattle.std.specs.Prelude.{◌≡◌, ℕ, List, ◌+◌, ◌≤◌, ◌<◌, ◌∷◌, [], length, IfErr, MatchOption, OnOk};
 ghost use Rattle.model_text.specs.declared.TextCause.TheVariants.{Memory};
 ghost use Rattle.acl_lexemes.specs.Frames.{inmost_first, in_backquote, takes_element, full_dot, delivered, opened, closed, dotted, backquoted, unquoted, spliced, frame_put, IsOpening};
-ghost use Rattle.acl_lexemes.specs.Opening.{PutsFrames};
+ghost use Rattle.acl_lexemes.specs.Opening.{PutsFrames, LeavesOpen};
 
 use crate::{Frame, Lexeme, Progress};
 use model_text::{TextCause, TextFault};
@@ -24,6 +24,7 @@ fn pop(frames: &mut Vec<Frame>) -> Option<Frame>
 #[tactic(auto, using(crate::proofs::FrameLemmas::pushed))]
 fn push(frames: &mut Vec<Frame>, frame: Frame) -> Result<(), TextFault>
     ensures ok { OnOk result (inmost_first frames.new.items ≡ frame ∷ inmost_first frames.old.items) }
+    ensures some { OnOk result (0 < length frames.new.items) }
     ensures fault { IfErr result (λ e. e.cause ≡ Memory) }
 {
     frames.push(frame)?;
@@ -39,7 +40,8 @@ fn fault(cause: TextCause, offset: u64) -> TextFault
 
 // A form goes where it belongs.
 fn deliver(frames: &mut Vec<Frame>) -> Result<Progress, TextFault>
-    ensures { PutsFrames frames.new.items (delivered (inmost_first frames.old.items)) result }
+    ensures puts { PutsFrames frames.new.items (delivered (inmost_first frames.old.items)) result }
+    ensures leaves { LeavesOpen frames.new.items result }
 {
     while let Some(frame) = pop(frames) {
         match frame {
@@ -60,7 +62,8 @@ fn deliver(frames: &mut Vec<Frame>) -> Result<Progress, TextFault>
 
 // A dot, which stands at this offset.
 fn put_dot(frames: &mut Vec<Frame>, at: u64) -> Result<Progress, TextFault>
-    ensures { PutsFrames frames.new.items (dotted at (inmost_first frames.old.items)) result }
+    ensures puts { PutsFrames frames.new.items (dotted at (inmost_first frames.old.items)) result }
+    ensures leaves { LeavesOpen frames.new.items result }
 {
     match pop(frames) {
         Some(Frame::Holding) => {
@@ -73,7 +76,8 @@ fn put_dot(frames: &mut Vec<Frame>, at: u64) -> Result<Progress, TextFault>
 
 // A bracket closes a list.
 fn close(frames: &mut Vec<Frame>, at: u64) -> Result<Progress, TextFault>
-    ensures { PutsFrames frames.new.items (closed at (inmost_first frames.old.items)) result }
+    ensures puts { PutsFrames frames.new.items (closed at (inmost_first frames.old.items)) result }
+    ensures leaves { LeavesOpen frames.new.items result }
 {
     match pop(frames) {
         Some(Frame::Empty | Frame::Holding | Frame::Ended(_)) => deliver(frames),
@@ -123,7 +127,8 @@ fn takes_element(frames: &[Frame]) -> bool
 
 // A part opens.
 fn open(frames: &mut Vec<Frame>, frame: Frame, at: u64) -> Result<Progress, TextFault>
-    ensures { PutsFrames frames.new.items (opened frame at (inmost_first frames.old.items)) result }
+    ensures puts { PutsFrames frames.new.items (opened frame at (inmost_first frames.old.items)) result }
+    ensures leaves { LeavesOpen frames.new.items result }
 {
     if frames.len() >= MOST_PARTS {
         return Err(fault(TextCause::TooDeep, at));
@@ -133,7 +138,8 @@ fn open(frames: &mut Vec<Frame>, frame: Frame, at: u64) -> Result<Progress, Text
 }
 
 fn put_backquote(frames: &mut Vec<Frame>, at: u64) -> Result<Progress, TextFault>
-    ensures { PutsFrames frames.new.items (backquoted at (inmost_first frames.old.items)) result }
+    ensures puts { PutsFrames frames.new.items (backquoted at (inmost_first frames.old.items)) result }
+    ensures leaves { LeavesOpen frames.new.items result }
 {
     if in_backquote(frames) {
         return Err(fault(TextCause::BadToken, at));
@@ -142,7 +148,8 @@ fn put_backquote(frames: &mut Vec<Frame>, at: u64) -> Result<Progress, TextFault
 }
 
 fn put_comma(frames: &mut Vec<Frame>, at: u64) -> Result<Progress, TextFault>
-    ensures { PutsFrames frames.new.items (unquoted at (inmost_first frames.old.items)) result }
+    ensures puts { PutsFrames frames.new.items (unquoted at (inmost_first frames.old.items)) result }
+    ensures leaves { LeavesOpen frames.new.items result }
 {
     if !in_backquote(frames) {
         return Err(fault(TextCause::CommaOutside, at));
@@ -151,7 +158,8 @@ fn put_comma(frames: &mut Vec<Frame>, at: u64) -> Result<Progress, TextFault>
 }
 
 fn put_comma_at(frames: &mut Vec<Frame>, at: u64) -> Result<Progress, TextFault>
-    ensures { PutsFrames frames.new.items (spliced at (inmost_first frames.old.items)) result }
+    ensures puts { PutsFrames frames.new.items (spliced at (inmost_first frames.old.items)) result }
+    ensures leaves { LeavesOpen frames.new.items result }
 {
     if !in_backquote(frames) || !takes_element(frames) {
         return Err(fault(TextCause::CommaOutside, at));
@@ -162,7 +170,8 @@ fn put_comma_at(frames: &mut Vec<Frame>, at: u64) -> Result<Progress, TextFault>
 // A lexeme that begins a part.
 fn begin(frames: &mut Vec<Frame>, lexeme: &Lexeme, at: u64) -> Result<Progress, TextFault>
     requires { IsOpening lexeme.now }
-    ensures { PutsFrames frames.new.items (frame_put lexeme.now at (inmost_first frames.old.items)) result }
+    ensures puts { PutsFrames frames.new.items (frame_put lexeme.now at (inmost_first frames.old.items)) result }
+    ensures leaves { LeavesOpen frames.new.items result }
 {
     if let Some(dot) = full_dot(frames) {
         return Err(fault(TextCause::BadDot, dot));
@@ -179,7 +188,8 @@ fn begin(frames: &mut Vec<Frame>, lexeme: &Lexeme, at: u64) -> Result<Progress, 
 
 /// A lexeme, which begins at this offset.
 pub fn put_frame(frames: &mut Vec<Frame>, lexeme: &Lexeme, at: u64) -> Result<Progress, TextFault>
-    ensures { PutsFrames frames.new.items (frame_put lexeme.now at (inmost_first frames.old.items)) result }
+    ensures puts { PutsFrames frames.new.items (frame_put lexeme.now at (inmost_first frames.old.items)) result }
+    ensures leaves { LeavesOpen frames.new.items result }
 {
     match lexeme {
         Lexeme::Number(_) => deliver(frames),

@@ -3,7 +3,7 @@
 ghost use Rattle.std.specs.Prelude.{◌≡◌, ℕ, length};
 ghost use Rattle.model_text.specs.Parts.{put};
 ghost use Rattle.acl_lexemes.specs.Lexemes.{lexeme_at, parts_of, IsKnown};
-ghost use Rattle.acl_lexemes.specs.Opening.{IsOpen, Puts};
+ghost use Rattle.acl_lexemes.specs.Opening.{IsOpen, Puts, LeavesOpen};
 
 use crate::frames::put_frame;
 use crate::{Frame, Lexeme, Placed, Progress};
@@ -20,7 +20,8 @@ pub fn add(
 ) -> Result<Progress, TextFault>
     requires open { IsOpen syms.now.symbols frames.old.items lexemes.old.items }
     requires known { IsKnown (length syms.now.symbols) lexeme }
-    ensures { Puts syms.now.symbols frames.new.items lexemes.new.items (put (lexeme_at syms.now.symbols lexeme) at (parts_of syms.now.symbols lexemes.old.items)) result }
+    ensures puts { Puts syms.now.symbols frames.new.items lexemes.new.items (put (lexeme_at syms.now.symbols lexeme) at (parts_of syms.now.symbols lexemes.old.items)) result }
+    ensures leaves { LeavesOpen frames.new.items result }
 {
     let _ = syms;
     match put_frame(frames, &lexeme, at) {

@@ -1,0 +1,4 @@
+pub mod GrowthLemmas
+pub mod ItemLemmas
+pub mod WeightLemmas
+pub mod SlotLemmas
