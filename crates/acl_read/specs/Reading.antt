@@ -65,5 +65,5 @@ Takes start t h current old new (Err e) = IsFault (next_of start t current old) 
 
 -- why a piece is refused: for want of memory, or by the fault that was given
 abbrev pub FeedFault : Option TextFault → TextFault → Type 0
-FeedFault None e = e.cause ≡ Memory
+FeedFault None e = (e.cause ≡ Memory) × (e.offset ≡ 0)
 FeedFault (Some fault) e = e ≡ fault

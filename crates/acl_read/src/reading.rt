@@ -1,16 +1,17 @@
 // The calls of a reader.
 
-ghost use Rattle.std.specs.Prelude.{◌≡◌, ℕ, List, [], ◌+◌, ◌-◌, ◌<◌, ◌≤◌, ◌++◌, drop, length, vec_len, IfErr, IfSome, OnOk, OnErr, Some, None, true, false};
+ghost use Rattle.std.specs.Prelude.{◌≡◌, ◌≢◌, ℕ, List, [], ◌+◌, ◌-◌, ◌<◌, ◌≤◌, ◌++◌, drop, length, vec_len, IfErr, IfOk, IfSome, OnOk, OnErr, Some, None, true, false};
 ghost use Rattle.model_symbols.specs.Symbols.{QualifiedName, Table};
 ghost use Rattle.model_symbols.specs.Growth.{Extends};
 ghost use Rattle.model_symbols.specs.Opening.{opening};
 ghost use Rattle.acl_base.specs.declared.PkgId.{PkgId};
 ghost use Rattle.acl_scan.specs.Built.{IsBuilt};
-ghost use Rattle.acl_forms.specs.Forms.{Grown};
+ghost use Rattle.model_text.specs.declared.TextCause.TheVariants.{Memory};
+ghost use Rattle.acl_forms.specs.Forms.{Grown, IsWhole};
 ghost use Rattle.acl_read.specs.Reading.{IsFresh, unread, offset_of, has_ended, fault_of, Fits, HasBuiltNothing, Takes, FeedFault};
 
 use crate::answering::next_word;
-use crate::{Reader, TextFault};
+use crate::{Reader, TextCause, TextFault};
 use acl_base::{PkgId, Word};
 use acl_heap::Heap;
 use acl_scan::{Built, Inside};
@@ -25,6 +26,21 @@ fn give_up(bytes: &mut Vec<u8>, count: usize)
     let rest = bytes.len() - count;
     bytes.rotate_left(count);
     bytes.truncate(rest);
+}
+
+// Want of memory is charged to no byte.
+fn placed(fault: TextFault) -> TextFault
+    ensures cause { result.cause ≡ fault.cause }
+    ensures offset { fault.cause ≢ Memory → result.offset ≡ fault.offset }
+    ensures memory { fault.cause ≡ Memory → result.offset ≡ 0 }
+{
+    match fault.cause {
+        TextCause::Memory => TextFault {
+            cause: TextCause::Memory,
+            offset: 0,
+        },
+        _ => fault,
+    }
 }
 
 // Nothing has been read of the next form.
@@ -130,6 +146,8 @@ impl Reader {
         ensures grows { Grown syms.old syms.new heap.old heap.new }
         ensures packages { syms.new.packages ≡ syms.old.packages }
         ensures takes { fault_of self.old ≡ None → (start : List QualifiedName) → Fits start syms.old current self.old → Takes start syms.new heap.new current self.old self.new result }
+        ensures whole { IfOk result (λ found. IfSome found (IsWhole syms.new heap.new)) }
+        ensures memory { fault_of self.old ≡ None → IfErr result (λ e. e.cause ≡ Memory → e.offset ≡ 0) }
         ensures again { IfSome (fault_of self.old) (λ e. (result ≡ Err e) × (self.new ≡ self.old) × (syms.new ≡ syms.old) × (heap.new ≡ heap.old)) }
         ensures kept { IfErr result (λ e. fault_of self.new ≡ Some e) }
         ensures sound { OnOk result (fault_of self.new ≡ None) }
@@ -140,7 +158,8 @@ impl Reader {
         }
         match self.resume(heap, syms, current) {
             Ok(found) => Ok(found),
-            Err(fault) => {
+            Err(refused) => {
+                let fault = placed(refused);
                 self.fault = Some(fault);
                 Err(fault)
             }
@@ -160,6 +179,7 @@ impl Reader {
         ensures grows { Grown syms.old syms.new heap.old heap.new }
         ensures packages { syms.new.packages ≡ syms.old.packages }
         ensures takes { (start : List QualifiedName) → Fits start syms.old current self.old → Takes start syms.new heap.new current self.old self.new result }
+        ensures whole { IfOk result (λ found. IfSome found (IsWhole syms.new heap.new)) }
         ensures ended { has_ended self.new ≡ has_ended self.old }
         ensures fault { fault_of self.new ≡ fault_of self.old }
     {
