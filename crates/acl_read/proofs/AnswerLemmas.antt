@@ -1,5 +1,5 @@
 -- What is known of a form that was read.
-use Rattle.std.specs.Prelude.{◌≡◌, ℕ, ◌<◌, ◌≤◌, nat_le, List, Bool, true, false, if◌then◌else◌, refl}
+use Rattle.std.specs.Prelude.{◌≡◌, ℕ, ◌<◌, ◌≤◌, nat_le, List, length, Bool, true, false, if◌then◌else◌, refl}
 use Rattle.std.proofs.Common.{sym, ap, ◌∙◌, arith}
 use Rattle.std.proofs.lemmas.Bool.Decides.{nat_tests}
 use Rattle.model_objects.specs.Object.{weight, max_weight}
@@ -64,3 +64,8 @@ grown_scan h g = Grown-symbols g.extends
 
 pub grown_after : {t u : Table} {h k : Objects} → Grows t u → Grown u u h k → Grown t u h k
 grown_after {t} {u} {h} {k} g n = Grown-then (Grown-symbols g.extends) n
+
+-- the table that every session begins with has more than two packages
+pub opening_many : (t : Table) → t ≡ opening → 2 < length t.packages
+unfolding opening
+opening_many t e = rw e (omega arith)

@@ -27,3 +27,6 @@ pub struct Reader {
     ghost in_order: { from ≤ scanned },
     ghost in_range: { scanned ≤ vec_len bytes },
 }
+
+#[cfg(test)]
+mod tests;
