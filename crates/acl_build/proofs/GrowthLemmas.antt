@@ -3,7 +3,8 @@ use Rattle.std.specs.Prelude.{◌≡◌, ℕ, ◌+◌, ◌<◌, ◌≤◌, List,
 use Rattle.std.proofs.Common.{sym, ap, ◌∙◌, arith, subst}
 use Rattle.std.proofs.lemmas.Option.{slice_get_within}
 use Rattle.model_objects.specs.Object.{Object, Integer, Symbol, Text, Pair, weight, max_weight}
-use Rattle.model_objects.specs.Named.{weight-named, Knows}
+use Rattle.model_objects.specs.Named.{Knows}
+use Rattle.model_objects.proofs.NamedLemmas.{weight-named}
 use Rattle.model_symbols.specs.Symbols.{QualifiedName, Table, symbol_at, form_of}
 use Rattle.model_symbols.specs.Growth.{IsSymbol}
 use Rattle.model_symbols.proofs.NameLemmas.{symbol_at-is}

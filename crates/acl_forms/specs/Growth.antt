@@ -2,7 +2,8 @@
 use Rattle.std.specs.Prelude.{◌≡◌, ℕ, ◌<◌, ◌≤◌, List, [], ◌∷◌, length, refl}
 use Rattle.std.proofs.Common.{sym, ap, ◌∙◌, subst, arith}
 use Rattle.model_objects.specs.Object.{Object}
-use Rattle.model_objects.specs.Named.{Knows, Symbols-weaker, named-agrees}
+use Rattle.model_objects.specs.Named.{Knows}
+use Rattle.model_objects.proofs.NamedLemmas.{Symbols-weaker, named-agrees}
 use Rattle.model_symbols.specs.Symbols.{Table, symbol_at, package_at, form_of}
 use Rattle.model_symbols.specs.Growth as tables
 use Rattle.model_symbols.proofs.NameLemmas.{symbol-at, symbol_at-is, package-at, package_at-is}

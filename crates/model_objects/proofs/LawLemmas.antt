@@ -5,8 +5,8 @@ use Rattle.std.specs.Ordering.{nat_cmp}
 use Rattle.std.specs.Cmp.{nat_cmp_total}
 use Rattle.std.proofs.lemmas.Map.Lookups.{exact_unsigned}
 use Rattle.model_objects.specs.Object.{Object, Integer, Symbol, Text, Pair, weight}
-use Rattle.model_objects.specs.Ordered.{object_total, object_exact}
-use Rattle.model_objects.specs.Named.{weight-named, cells-named}
+use Rattle.model_objects.proofs.Ordered.{object_total, object_exact}
+use Rattle.model_objects.proofs.NamedLemmas.{weight-named, cells-named}
 use Rattle.model_objects.specs.Laws.{IsOrder, KeepsSize}
 
 pub weight-positive : {S : Type 0} (o : Object S) → 0 < weight o

@@ -7,9 +7,9 @@ use Rattle.model_prim_rows.specs.Arithmetic.{sum_examples, division_examples, po
 use Rattle.model_prim_rows.specs.Lists.{part_examples, list_examples, search_examples, paired, HasWeightLimit}
 use Rattle.model_prim_rows.specs.Names.{name_examples, choice_examples}
 use Rattle.model_prim_rows.specs.Logic.{AreLogic, logic_examples}
-use Rattle.model_prim_rows.specs.Table.{IsOfOpening}
+use Rattle.model_prim_rows.specs.Table.{IsOfOpening, IsConstant, AreConstants}
 use Rattle.model_symbols.specs.Opening.{opening, acl2_package, common_lisp_symbols, acl2_symbols, common_lisp_text, acl2_text}
-use Rattle.model_prims.specs.Rows.{table}
+use Rattle.model_prims.specs.Rows.{table, exported_symbols, main_symbols}
 use Rattle.model_prims.specs.Guards.{guard, recognizer_guard, relation_guard, arithmetic_guard, listing_guard, naming_guard}
 use Rattle.model_prims.specs.Values.{wanted, recognized, related, computed, listed, named_by}
 use Rattle.model_prims.specs.Applied.{Stops, Large, applied_to, bounded}
@@ -76,3 +76,15 @@ logic = record { all = refl }
 pub of_opening : IsOfOpening
 unfolding opening acl2_package common_lisp_symbols acl2_symbols common_lisp_text acl2_text table guard recognizer_guard relation_guard arithmetic_guard listing_guard naming_guard wanted recognized related computed listed named_by applied_to bounded
 of_opening = record { known = refl; different = refl; rows = refl }
+
+exported : IsConstant exported_symbols
+unfolding opening acl2_package common_lisp_symbols acl2_symbols common_lisp_text acl2_text
+exported = record { listed = refl; small = refl; known = refl; alike = refl }
+
+main : IsConstant main_symbols
+unfolding opening acl2_package common_lisp_symbols acl2_symbols common_lisp_text acl2_text
+main = record { listed = refl; small = refl; known = refl; alike = refl }
+
+pub constants : AreConstants
+unfolding opening acl2_package common_lisp_symbols acl2_symbols common_lisp_text acl2_text
+constants = record { exported = exported; main = main; apart = refl }

@@ -7,7 +7,7 @@ ghost use Rattle.model_prim_rows.specs.Arithmetic.{sum_examples, division_exampl
 ghost use Rattle.model_prim_rows.specs.Lists.{part_examples, list_examples, search_examples, HasWeightLimit};
 ghost use Rattle.model_prim_rows.specs.Names.{name_examples, choice_examples};
 ghost use Rattle.model_prim_rows.specs.Logic.{AreLogic, logic_examples};
-ghost use Rattle.model_prim_rows.specs.Table.{IsOfOpening};
+ghost use Rattle.model_prim_rows.specs.Table.{IsOfOpening, AreConstants};
 
 #[tactic(auto, using(crate::proofs::Computed::recognizers))]
 pub fn recognizers()
@@ -79,4 +79,10 @@ pub fn logic()
 #[tactic(auto, using(crate::proofs::Computed::of_opening))]
 pub fn names_are_known()
     ensures { IsOfOpening }
+{}
+
+/// The values of the two constants are true lists of symbols that every table of symbols begins with.
+#[tactic(auto, using(crate::proofs::Computed::constants))]
+pub fn constants_are_lists()
+    ensures { AreConstants }
 {}

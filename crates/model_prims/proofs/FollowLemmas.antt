@@ -18,7 +18,7 @@ use Rattle.model_prims.specs.Guards.{guard}
 use Rattle.model_prims.specs.Values.{Wanted, Old, Number, Made, Power, Shift, Update, Interned, wanted, computed, without_sign, listed, named_by, interned_beside}
 use Rattle.model_prims.specs.Applied.{Applied, Large, Gives, Stops, logic_value, number_or, weighed, updated_by, number_then, beside, bounded, guarded, applied_to}
 use Rattle.model_prims.specs.Applied.{Symbols as NoRoom}
-use Rattle.model_prims.specs.Naming.{IsNaming, wanted_named}
+use Rattle.model_prims.proofs.ByName.{IsNaming, wanted_named}
 use Rattle.model_prims.specs.Laws.{NamesTruth, FollowsLogic}
 use Rattle.model_prims.proofs.AtOnce.{is_at_once}
 use Rattle.model_prims.proofs.NamingLemmas.{wanted_by_name, updated_named}

@@ -13,7 +13,7 @@ use Rattle.model_prims.specs.Guards.{guard}
 use Rattle.model_prims.specs.Values.{Wanted, Old, Number, Made, Power, Shift, Update, Interned, wanted}
 use Rattle.model_prims.specs.Applied.{Applied, Stop, Large, Gives, Stops, number_or, updated_by, number_then, beside, bounded, guarded, applied_to}
 use Rattle.model_prims.specs.Applied.{Symbols as NoRoom}
-use Rattle.model_prims.specs.Known.{WantedSymbols}
+use Rattle.model_prims.proofs.Known.{WantedSymbols}
 use Rattle.model_prims.specs.Laws.{GivesKnown}
 use Rattle.model_prims.proofs.KnownLemmas.{wanted_known, updated_known}
 use Rattle.model_prims.specs.declared.prim.Prim.{Prim}

@@ -8,7 +8,7 @@ use Rattle.model_prims.specs.Kinds.{by_number, truth_of, same_object, is_natural
 use Rattle.model_prims.specs.Numbers.{fix, natural_of}
 use Rattle.model_prims.specs.Lists.{car, cdr, element, padded, updated, member, is_member, assoc, union, appended, revappended}
 use Rattle.model_prims.specs.Values.{wanted, recognized, related, computed, without_sign, listed, named_by, name_of, interned_beside}
-use Rattle.model_prims.specs.Known.{WantedSymbols}
+use Rattle.model_prims.proofs.Known.{WantedSymbols}
 use Rattle.model_prims.specs.declared.prim.Prim.{Prim}
 use Rattle.model_prims.specs.declared.prim.Prim.TheVariants as prim
 use Rattle.model_prims.specs.declared.prim.Arithmetic.{Arithmetic}

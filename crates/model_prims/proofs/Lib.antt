@@ -1,9 +1,11 @@
 pub mod Division
 pub mod Bits
 pub mod Same
+pub mod Known
 pub mod KnownLemmas
 pub mod GivenLemmas
 pub mod LawLemmas
 pub mod AtOnce
+pub mod ByName
 pub mod NamingLemmas
 pub mod FollowLemmas

@@ -9,7 +9,7 @@ use Rattle.model_prims.specs.Kinds.{by_number, by_name, truth_of, nil_of, is_nil
 use Rattle.model_prims.specs.Numbers.{fix, natural_of}
 use Rattle.model_prims.specs.Lists.{len, size_of, car, cdr, is_true_list, is_alist, element, padded, updated, member, is_member, assoc, union, appended, revappended}
 use Rattle.model_prims.specs.Values.{Old, Made, wanted, recognized, related, computed, without_sign, listed, named_by, name_of, bytes_of, interned_beside}
-use Rattle.model_prims.specs.Naming.{IsNaming, wanted_named}
+use Rattle.model_prims.proofs.ByName.{IsNaming, wanted_named}
 use Rattle.model_prims.specs.declared.prim.Prim.{Prim}
 use Rattle.model_prims.specs.declared.prim.Prim.TheVariants as prim
 use Rattle.model_prims.specs.declared.prim.Recognizer.{Recognizer}

@@ -5,6 +5,4 @@ pub mod Guards
 pub mod Values
 pub mod Applied
 pub mod Rows
-pub mod Known
 pub mod Laws
-pub mod Naming

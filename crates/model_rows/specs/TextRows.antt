@@ -1,15 +1,21 @@
 -- What stands first in some texts, and the text of some objects.
 use Rattle.std.specs.Prelude.{◌≡◌, ℕ, zero, suc, List, [], ◌∷◌, ◌++◌, replicate, true, false, codes, pos, negsuc}
 use Rattle.model_objects.specs.Object.{Integer, Symbol, Text, Pair, list_onto}
-use Rattle.model_symbols.specs.Symbols.{QualifiedName, is_one_too_many}
-use Rattle.model_symbols.specs.Opening.{common_lisp, keyword, nil_name, quote_name}
+use Rattle.model_symbols.specs.Symbols.{QualifiedName, Package, is_one_too_many}
+use Rattle.model_symbols.specs.Opening.{common_lisp, keyword, acl2, hidden, without_imports, nil_name, quote_name}
 use Rattle.model_text.specs.Token.{Form}
 use Rattle.model_text.specs.Backquote.{nil_form, quote_form, cons_form, append_form}
 use Rattle.model_text.specs.Parts.{Part, Opened, Quoted}
 use Rattle.model_text.specs.Next.{Free, run, Step, Gives, Fails, whole, next_at, Next, Stands, Nothing, End, Faulty}
 use Rattle.model_text.specs.Text.{text}
-use Rattle.model_text.specs.Examples.{few_packages, own}
 use Rattle.model_text.specs.declared.TextCause.TheVariants.{StrayClose, BadDot, CommaOutside, BadToken, BadByte, IntegerTooWide, TooDeep, UnknownPackage, TooManySymbols, FormTooLong, TooLarge, Unfinished, InputTooLong}
+
+-- the opening packages, `ACL2` with two imports
+abbrev pub few_packages : List Package
+few_packages = without_imports common_lisp ∷ without_imports keyword ∷ record { name = acl2; imports = nil_name ∷ quote_name ∷ [] } ∷ without_imports hidden ∷ []
+
+abbrev pub own : List ℕ → QualifiedName
+own name = record { home = acl2; name = name }
 
 abbrev pub key : List ℕ → QualifiedName
 key name = record { home = keyword; name = name }

@@ -49,9 +49,6 @@ form_of symbols o = named (symbol_at symbols) o
 abbrev pub package_number : List Package → List ℕ → Option ℕ
 package_number packages name = position (λ p. bytes_eq name p.name) packages
 
-abbrev pub has_package : List Package → List ℕ → Bool
-has_package packages name = list_any (λ p. bytes_eq name p.name) packages
-
 abbrev pub no_package : Package
 no_package = record { name = []; imports = [] }
 

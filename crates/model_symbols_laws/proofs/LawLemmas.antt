@@ -1,7 +1,7 @@
 -- The laws of symbols.
 use Rattle.std.specs.Prelude.{◌≡◌, ℕ, ◌<◌, List, length, Some, refl}
 use Rattle.std.proofs.Common.{sym, ap, ◌∙◌}
-use Rattle.model_objects.specs.Named.{named-injective, named-agrees, Symbols-weaker}
+use Rattle.model_objects.proofs.NamedLemmas.{named-injective, named-agrees, Symbols-weaker}
 use Rattle.model_symbols.specs.Symbols.{QualifiedName, symbol_at, number_of}
 use Rattle.model_symbols.specs.Growth.{AreDistinct, IsSymbol}
 use Rattle.model_symbols.specs.Opening.{opening, acl2_package, common_lisp_symbols, acl2_symbols, common_lisp_text, acl2_text}

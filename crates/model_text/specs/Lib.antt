@@ -4,4 +4,3 @@ pub mod Parts
 pub mod Next
 pub mod Text
 pub mod Spelling
-pub mod Examples

@@ -1,4 +1,4 @@
--- The primitives over numbered symbols and over named ones.
+-- The primitives over numbered symbols and over named ones, for the proofs that compare them.
 use Rattle.std.specs.Prelude.{◌≡◌, ℕ, nat_eq}
 use Rattle.model_objects.specs.Object.{named}
 use Rattle.model_symbols.specs.Symbols.{QualifiedName, same_name}
