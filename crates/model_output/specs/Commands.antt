@@ -1,62 +1,20 @@
--- The commands that are known: the definition of an object of integer fields, an update, and a read.
-use Rattle.std.specs.Prelude.{ℕ, List, [], ◌∷◌, length, map, Bool, ◌&&◌, not, ◌==◌, codes, Option, Some, None, if◌then◌else◌, true, false, ℤ, ◌++◌}
+-- The commands that are known: the definition of an object of integer fields, the choice of a package, and the call of a
+-- function on constants and an object.
+use Rattle.std.specs.Prelude.{ℤ, ℕ, List, [], ◌∷◌, map, Bool, ◌&&◌, ◌||◌, codes, Option, Some, None, if◌then◌else◌, false}
 use Rattle.std.specs.Option.{option_map, option_and_then}
-use Rattle.std.specs.Char.{is_ascii_uppercase}
-use Rattle.std.specs.List.{list_all, list_any}
 use Rattle.std.specs.Str.{bytes_eq}
 use Rattle.model_objects.specs.Object.{Integer, Symbol, Text, Pair}
-use Rattle.model_symbols.specs.Symbols.{QualifiedName, same_name, is_known}
-use Rattle.model_symbols.specs.Opening.{acl2, common_lisp, keyword, nil_name, quote_name}
-use Rattle.model_output.specs.Text.{Form}
-
--- ---- parts of forms
-
--- the elements of a true list
-abbrev pub elements : Form → Option (List Form)
-elements (Integer n) = None
-elements (Symbol s) = if same_name s nil_name then Some [] else None
-elements (Text bytes) = None
-elements (Pair a d) = option_map (λ (fs : List Form). a ∷ fs) (elements d)
-
-abbrev pub is_keyword : QualifiedName → Bool
-is_keyword s = bytes_eq s.home keyword
-
--- a symbol that is no keyword
-abbrev pub word_of : Form → Option QualifiedName
-word_of (Integer n) = None
-word_of (Symbol s) = if is_keyword s then None else Some s
-word_of (Text bytes) = None
-word_of (Pair a d) = None
-
-abbrev pub integer_of : Form → Option ℤ
-integer_of (Integer n) = Some n
-integer_of (Symbol s) = None
-integer_of (Text bytes) = None
-integer_of (Pair a d) = None
-
-abbrev pub is_symbol : QualifiedName → Form → Bool
-is_symbol s (Integer n) = false
-is_symbol s (Symbol t) = same_name s t
-is_symbol s (Text bytes) = false
-is_symbol s (Pair a d) = false
-
--- the symbol that is quoted, no keyword
-abbrev pub quoted_in : List Form → Option QualifiedName
-quoted_in [] = None
-quoted_in (q ∷ []) = None
-quoted_in (q ∷ f ∷ []) = if is_symbol quote_name q then word_of f else None
-quoted_in (q ∷ f ∷ g ∷ fs) = None
-
-abbrev pub quoted_of : Form → Option QualifiedName
-quoted_of f = option_and_then quoted_in (elements f)
+use Rattle.model_symbols.specs.Symbols.{QualifiedName, same_name}
+use Rattle.model_symbols.specs.Opening.{acl2, common_lisp, keyword, nil_name, truth_name, quote_name}
+use Rattle.model_text.specs.Token.{Form}
 
 -- ---- names
 
-abbrev pub in_acl2 : List ℕ → QualifiedName
-in_acl2 name = record { home = acl2; name = name }
-
 abbrev pub defstobj_name : QualifiedName
-defstobj_name = in_acl2 (codes "DEFSTOBJ")
+defstobj_name = record { home = acl2; name = codes "DEFSTOBJ" }
+
+abbrev pub in_package_name : QualifiedName
+in_package_name = record { home = common_lisp; name = codes "IN-PACKAGE" }
 
 abbrev pub integer_name : QualifiedName
 integer_name = record { home = common_lisp; name = codes "INTEGER" }
@@ -67,16 +25,67 @@ type_name = record { home = keyword; name = codes "TYPE" }
 abbrev pub initially_name : QualifiedName
 initially_name = record { home = keyword; name = codes "INITIALLY" }
 
--- words that no object and no field can have
-abbrev pub taken_names : List (List ℕ)
-taken_names = codes "IF" ∷ codes "EQ" ∷ codes "OR" ∷ codes "MV" ∷ codes "ZP" ∷ codes "LD" ∷ codes "ER" ∷ codes "CW" ∷ codes "ZI" ∷ []
+-- `T`, `NIL` and the keywords stand for themselves
+abbrev pub is_constant : QualifiedName → Bool
+is_constant s = bytes_eq s.home keyword || (same_name s truth_name || same_name s nil_name)
 
-abbrev pub are_upper_case : List ℕ → Bool
-are_upper_case name = list_all is_ascii_uppercase name
+-- ---- parts of forms
 
--- the name of an object or a field: a word of two letters that is not taken
-abbrev pub is_new_name : List ℕ → Bool
-is_new_name name = (length name == 2) && (are_upper_case name && not (list_any (bytes_eq name) taken_names))
+-- the elements of a true list
+abbrev pub elements : Form → Option (List Form)
+elements (Integer n) = None
+elements (Symbol s) = if same_name s nil_name then Some [] else None
+elements (Text bytes) = None
+elements (Pair a d) = option_map (λ (fs : List Form). a ∷ fs) (elements d)
+
+abbrev pub symbol_of : Form → Option QualifiedName
+symbol_of (Integer n) = None
+symbol_of (Symbol s) = Some s
+symbol_of (Text bytes) = None
+symbol_of (Pair a d) = None
+
+abbrev pub integer_of : Form → Option ℤ
+integer_of (Integer n) = Some n
+integer_of (Symbol s) = None
+integer_of (Text bytes) = None
+integer_of (Pair a d) = None
+
+abbrev pub string_of : Form → Option (List ℕ)
+string_of (Integer n) = None
+string_of (Symbol s) = None
+string_of (Text bytes) = Some bytes
+string_of (Pair a d) = None
+
+abbrev pub is_symbol : QualifiedName → Form → Bool
+is_symbol s (Integer n) = false
+is_symbol s (Symbol t) = same_name t s
+is_symbol s (Text bytes) = false
+is_symbol s (Pair a d) = false
+
+-- the element of a list of one
+abbrev pub only_one : List Form → Option Form
+only_one [] = None
+only_one (f ∷ []) = Some f
+only_one (f ∷ g ∷ fs) = None
+
+-- ---- actuals
+
+-- what stands as an actual of a call
+pub data Actual : Type 0 where
+  Literal : Form → Actual  -- an integer, a string, `T`, `NIL` or a keyword
+  Quoted : Form → Actual
+  Variable : QualifiedName → Actual
+  Nested : Actual  -- any other form
+
+abbrev pub quoted : Option Form → Actual
+quoted None = Nested
+quoted (Some f) = Quoted f
+
+abbrev pub actual_of : Form → Actual
+actual_of (Integer n) = Literal (Integer n)
+actual_of (Symbol s) = if is_constant s then Literal (Symbol s) else Variable s
+actual_of (Text bytes) = Literal (Text bytes)
+actual_of (Pair a d) = if is_symbol quote_name a then quoted (option_and_then only_one (elements d)) else Nested
 
 -- ---- commands
 
@@ -85,22 +94,18 @@ pub record NewField : Type 0 where
   pub initial : ℤ
 
 pub data Command : Type 0 where
-  -- an object of this name, with these fields
-  Define : QualifiedName → List NewField → Command
-  -- a call of this function with a value, or with a symbol, and an object
-  Update : QualifiedName → ℤ → QualifiedName → Command
-  UpdateBy : QualifiedName → QualifiedName → QualifiedName → Command
-  -- a call of this function with an object
-  Read : QualifiedName → QualifiedName → Command
-  -- any other form
-  Other : Command
+  Define : QualifiedName → List NewField → Command  -- an object of this name, with these fields
+  Enter : List ℕ → Command  -- the package of this name
+  Misshapen : QualifiedName → Command  -- an event whose form has a wrong shape, by its head
+  Call : QualifiedName → List Actual → Command
+  Other : Command  -- any other form
 
 abbrev pub new_field : Option QualifiedName → Option ℤ → Option NewField
 new_field None initial = None
 new_field (Some name) None = None
 new_field (Some name) (Some initial) = Some (record { name = name; initial = initial })
 
--- `F :type integer :initially N`
+-- `(F :type integer :initially N)`
 abbrev pub field_in : List Form → Option NewField
 field_in [] = None
 field_in (f ∷ []) = None
@@ -109,7 +114,7 @@ field_in (f ∷ a ∷ b ∷ []) = None
 field_in (f ∷ a ∷ b ∷ c ∷ []) = None
 field_in (f ∷ a ∷ b ∷ c ∷ n ∷ []) =
     if is_symbol type_name a && (is_symbol integer_name b && is_symbol initially_name c)
-    then new_field (word_of f) (integer_of n)
+    then new_field (symbol_of f) (integer_of n)
     else None
 field_in (f ∷ a ∷ b ∷ c ∷ n ∷ m ∷ more) = None
 
@@ -120,58 +125,50 @@ abbrev pub fields_of : List Form → Option (List NewField)
 fields_of [] = Some []
 fields_of (f ∷ fs) = option_and_then (λ field. option_map (λ (rest : List NewField). field ∷ rest) (fields_of fs)) (field_of f)
 
--- the names are new, and different from these and from each other
-abbrev pub is_fresh : List QualifiedName → QualifiedName → Bool
-is_fresh others s = is_new_name s.name && not (is_known others s)
-
-abbrev pub are_new : List QualifiedName → List QualifiedName → Bool
-are_new others [] = true
-are_new others (s ∷ ss) = is_fresh others s && are_new (others ++ s ∷ []) ss
-
-abbrev pub is_empty : {A : Type 0} → List A → Bool
-is_empty [] = true
-is_empty (x ∷ xs) = false
-
-abbrev pub definition_of : QualifiedName → List NewField → Command
-definition_of s fields = if not (is_empty fields) && are_new [] (s ∷ map (λ (f : NewField). f.name) fields) then Define s fields else Other
+-- an object has at least one field
+abbrev pub with_fields : QualifiedName → List NewField → Command
+with_fields s [] = Other
+with_fields s (f ∷ fs) = Define s (f ∷ fs)
 
 abbrev pub defined : Option QualifiedName → Option (List NewField) → Command
 defined None fields = Other
 defined (Some s) None = Other
-defined (Some s) (Some fields) = definition_of s fields
+defined (Some s) (Some fields) = with_fields s fields
 
+-- `(defstobj S (F :type integer :initially N) ..)`, by what stands behind the head
 abbrev pub definition : List Form → Command
 definition [] = Other
-definition (s ∷ fields) = defined (word_of s) (fields_of fields)
+definition (s ∷ fields) = defined (symbol_of s) (fields_of fields)
 
-abbrev pub read_of : QualifiedName → Option QualifiedName → Command
-read_of f None = Other
-read_of f (Some object) = Read f object
+abbrev pub entered : Option (List ℕ) → Command
+entered None = Misshapen in_package_name
+entered (Some name) = Enter name
 
-abbrev pub update_of : QualifiedName → Option ℤ → Option QualifiedName → Option QualifiedName → Command
-update_of f value quoted None = Other
-update_of f (Some n) quoted (Some object) = Update f n object
-update_of f None (Some s) (Some object) = UpdateBy f s object
-update_of f None None (Some object) = Other
+-- `(in-package "P")`, by what stands behind the head
+abbrev pub entry : List Form → Command
+entry fs = entered (option_and_then string_of (only_one fs))
 
-abbrev pub call : QualifiedName → List Form → Command
-call f [] = Other
-call f (o ∷ []) = read_of f (word_of o)
-call f (v ∷ o ∷ []) = update_of f (integer_of v) (quoted_of v) (word_of o)
-call f (v ∷ o ∷ p ∷ more) = Other
+abbrev pub event_or_call : QualifiedName → List Form → Command
+event_or_call f rest =
+    if same_name f in_package_name then entry rest
+    else (if same_name f defstobj_name then definition rest
+    else Call f (map actual_of rest))
 
-abbrev pub headed : Option QualifiedName → List Form → Command
-headed None rest = Other
-headed (Some f) rest = if same_name f defstobj_name then definition rest else call f rest
+-- what stands behind the head is no true list
+abbrev pub improper : QualifiedName → Command
+improper f = if same_name f in_package_name then Misshapen in_package_name else Other
 
-abbrev pub spelled : List Form → Command
-spelled [] = Other
-spelled (f ∷ rest) = headed (word_of f) rest
+abbrev pub headed : QualifiedName → Option (List Form) → Command
+headed f None = improper f
+headed f (Some rest) = event_or_call f rest
 
-abbrev pub command_in : Option (List Form) → Command
-command_in None = Other
-command_in (Some fs) = spelled fs
+abbrev pub with_head : Option QualifiedName → Form → Command
+with_head None d = Other
+with_head (Some f) d = headed f (elements d)
 
 -- the command that a form is
 unfoldable pub command_of : Form → Command
-command_of f = command_in (elements f)
+command_of (Integer n) = Other
+command_of (Symbol s) = Other
+command_of (Text bytes) = Other
+command_of (Pair a d) = with_head (symbol_of a) d

@@ -1,4 +1,9 @@
-pub mod Text
+pub mod Reserved
 pub mod Commands
 pub mod Sessions
+pub mod Lines
+pub mod Objects
+pub mod Calls
+pub mod Events
+pub mod Running
 pub mod Output

@@ -1,31 +1,153 @@
 -- The definitions, computed.
 use Rattle.std.specs.Prelude.{refl}
 use Rattle.std.specs.Fmt.{digits}
-use Rattle.model_symbols.specs.Opening.{common_lisp_text, acl2_text, common_lisp_symbols, acl2_symbols, acl2_package}
-use Rattle.model_output.specs.Text.{forms_of}
+use Rattle.model_symbols.specs.Opening.{opening, common_lisp_text, acl2_text, common_lisp_symbols, acl2_symbols, acl2_package}
+use Rattle.model_text.specs.Token.{token_of}
+use Rattle.model_text.specs.Next.{next_at, step}
+use Rattle.model_prims.specs.Rows as rows
+use Rattle.model_prims.specs.Guards.{guard, recognizer_guard, relation_guard, arithmetic_guard, listing_guard, naming_guard}
+use Rattle.model_prims.specs.Values.{wanted, recognized, related, computed, listed, named_by}
+use Rattle.model_prims.specs.Applied.{applied_to, bounded}
+use Rattle.model_output.specs.Reserved.{reserved_lisp, reserved_own, is_reserved}
 use Rattle.model_output.specs.Commands.{command_of}
-use Rattle.model_output.specs.Sessions.{run}
-use Rattle.model_output.specs.Output.{output, summary_text, faulty}
-use Rattle.model_output_rows.specs.Rows.{AreWritten, AreRefused}
+use Rattle.model_output.specs.Running.{run}
+use Rattle.model_output.specs.Output.{output, summary_text}
+use Rattle.model_output_rows.specs.Rows as rows
 
-pub are_written : AreWritten
-unfolding common_lisp_text acl2_text common_lisp_symbols acl2_symbols acl2_package forms_of command_of run output summary_text faulty digits
-are_written = record { empty = refl; three_commands = refl; guard_violation = refl; no_object = refl; a_string = refl; two_fields = refl; odd_commands = refl }
+empty : rows.Empty
+unfolding common_lisp_text acl2_text common_lisp_symbols acl2_symbols acl2_package opening next_at step token_of command_of run output summary_text digits reserved_lisp reserved_own is_reserved table guard recognizer_guard relation_guard arithmetic_guard listing_guard naming_guard wanted recognized related computed listed named_by applied_to bounded
+empty = refl
 
-pub are_refused : AreRefused
-unfolding common_lisp_text acl2_text common_lisp_symbols acl2_symbols acl2_package forms_of command_of run output summary_text faulty digits
-are_refused = record {
-  open_list = refl;
-  stray_close = refl;
-  too_deep = refl;
-  quote_and_blank = refl;
-  quoted_list = refl;
-  quoted_integer = refl;
-  two_quotes = refl;
-  nineteen_digits = refl;
-  minus_alone = refl;
-  plus_sign = refl;
-  digit_first = refl;
-  colon_alone = refl;
-  a_comment = refl;
-}
+three_commands : rows.ThreeCommands
+unfolding common_lisp_text acl2_text common_lisp_symbols acl2_symbols acl2_package opening next_at step token_of command_of run output summary_text digits reserved_lisp reserved_own is_reserved table guard recognizer_guard relation_guard arithmetic_guard listing_guard naming_guard wanted recognized related computed listed named_by applied_to bounded
+three_commands = refl
+
+guard_violation : rows.GuardViolation
+unfolding common_lisp_text acl2_text common_lisp_symbols acl2_symbols acl2_package opening next_at step token_of command_of run output summary_text digits reserved_lisp reserved_own is_reserved table guard recognizer_guard relation_guard arithmetic_guard listing_guard naming_guard wanted recognized related computed listed named_by applied_to bounded
+guard_violation = refl
+
+no_object : rows.NoObject
+unfolding common_lisp_text acl2_text common_lisp_symbols acl2_symbols acl2_package opening next_at step token_of command_of run output summary_text digits reserved_lisp reserved_own is_reserved table guard recognizer_guard relation_guard arithmetic_guard listing_guard naming_guard wanted recognized related computed listed named_by applied_to bounded
+no_object = refl
+
+a_string : rows.AString
+unfolding common_lisp_text acl2_text common_lisp_symbols acl2_symbols acl2_package opening next_at step token_of command_of run output summary_text digits reserved_lisp reserved_own is_reserved table guard recognizer_guard relation_guard arithmetic_guard listing_guard naming_guard wanted recognized related computed listed named_by applied_to bounded
+a_string = refl
+
+two_fields : rows.TwoFields
+unfolding common_lisp_text acl2_text common_lisp_symbols acl2_symbols acl2_package opening next_at step token_of command_of run output summary_text digits reserved_lisp reserved_own is_reserved table guard recognizer_guard relation_guard arithmetic_guard listing_guard naming_guard wanted recognized related computed listed named_by applied_to bounded
+two_fields = refl
+
+quoted_constants : rows.QuotedConstants
+unfolding common_lisp_text acl2_text common_lisp_symbols acl2_symbols acl2_package opening next_at step token_of command_of run output summary_text digits reserved_lisp reserved_own is_reserved table guard recognizer_guard relation_guard arithmetic_guard listing_guard naming_guard wanted recognized related computed listed named_by applied_to bounded
+quoted_constants = refl
+
+hexadecimal : rows.Hexadecimal
+unfolding common_lisp_text acl2_text common_lisp_symbols acl2_symbols acl2_package opening next_at step token_of command_of run output summary_text digits reserved_lisp reserved_own is_reserved table guard recognizer_guard relation_guard arithmetic_guard listing_guard naming_guard wanted recognized related computed listed named_by applied_to bounded
+hexadecimal = refl
+
+widest_integers : rows.WidestIntegers
+unfolding common_lisp_text acl2_text common_lisp_symbols acl2_symbols acl2_package opening next_at step token_of command_of run output summary_text digits reserved_lisp reserved_own is_reserved table guard recognizer_guard relation_guard arithmetic_guard listing_guard naming_guard wanted recognized related computed listed named_by applied_to bounded
+widest_integers = refl
+
+pub are_written : rows.AreWritten
+are_written = record { empty = empty; three_commands = three_commands; guard_violation = guard_violation; no_object = no_object; a_string = a_string; two_fields = two_fields; quoted_constants = quoted_constants; hexadecimal = hexadecimal; widest_integers = widest_integers }
+
+odd_commands : rows.OddCommands
+unfolding common_lisp_text acl2_text common_lisp_symbols acl2_symbols acl2_package opening next_at step token_of command_of run output summary_text digits reserved_lisp reserved_own is_reserved table guard recognizer_guard relation_guard arithmetic_guard listing_guard naming_guard wanted recognized related computed listed named_by applied_to bounded
+odd_commands = refl
+
+pub are_mixed : rows.AreMixed
+are_mixed = record { odd_commands = odd_commands }
+
+bad_names : rows.BadNames
+unfolding common_lisp_text acl2_text common_lisp_symbols acl2_symbols acl2_package opening next_at step token_of command_of run output summary_text digits reserved_lisp reserved_own is_reserved table guard recognizer_guard relation_guard arithmetic_guard listing_guard naming_guard wanted recognized related computed listed named_by applied_to bounded
+bad_names = refl
+
+names_in_use : rows.NamesInUse
+unfolding common_lisp_text acl2_text common_lisp_symbols acl2_symbols acl2_package opening next_at step token_of command_of run output summary_text digits reserved_lisp reserved_own is_reserved table guard recognizer_guard relation_guard arithmetic_guard listing_guard naming_guard wanted recognized related computed listed named_by applied_to bounded
+names_in_use = refl
+
+bad_name_before_name_in_use : rows.BadNameBeforeNameInUse
+unfolding common_lisp_text acl2_text common_lisp_symbols acl2_symbols acl2_package opening next_at step token_of command_of run output summary_text digits reserved_lisp reserved_own is_reserved table guard recognizer_guard relation_guard arithmetic_guard listing_guard naming_guard wanted recognized related computed listed named_by applied_to bounded
+bad_name_before_name_in_use = refl
+
+other_definitions : rows.OtherDefinitions
+unfolding common_lisp_text acl2_text common_lisp_symbols acl2_symbols acl2_package opening next_at step token_of command_of run output summary_text digits reserved_lisp reserved_own is_reserved table guard recognizer_guard relation_guard arithmetic_guard listing_guard naming_guard wanted recognized related computed listed named_by applied_to bounded
+other_definitions = refl
+
+pub are_named : rows.AreNamed
+are_named = record { bad_names = bad_names; names_in_use = names_in_use; bad_name_before_name_in_use = bad_name_before_name_in_use; other_definitions = other_definitions }
+
+packages : rows.Packages
+unfolding common_lisp_text acl2_text common_lisp_symbols acl2_symbols acl2_package opening next_at step token_of command_of run output summary_text digits reserved_lisp reserved_own is_reserved table guard recognizer_guard relation_guard arithmetic_guard listing_guard naming_guard wanted recognized related computed listed named_by applied_to bounded
+packages = refl
+
+other_package : rows.OtherPackage
+unfolding common_lisp_text acl2_text common_lisp_symbols acl2_symbols acl2_package opening next_at step token_of command_of run output summary_text digits reserved_lisp reserved_own is_reserved table guard recognizer_guard relation_guard arithmetic_guard listing_guard naming_guard wanted recognized related computed listed named_by applied_to bounded
+other_package = refl
+
+misshapen_packages : rows.MisshapenPackages
+unfolding common_lisp_text acl2_text common_lisp_symbols acl2_symbols acl2_package opening next_at step token_of command_of run output summary_text digits reserved_lisp reserved_own is_reserved table guard recognizer_guard relation_guard arithmetic_guard listing_guard naming_guard wanted recognized related computed listed named_by applied_to bounded
+misshapen_packages = refl
+
+pub are_packages : rows.ArePackages
+are_packages = record { packages = packages; other_package = other_package; misshapen_packages = misshapen_packages }
+
+primitives : rows.Primitives
+unfolding common_lisp_text acl2_text common_lisp_symbols acl2_symbols acl2_package opening next_at step token_of command_of run output summary_text digits reserved_lisp reserved_own is_reserved table guard recognizer_guard relation_guard arithmetic_guard listing_guard naming_guard wanted recognized related computed listed named_by applied_to bounded
+primitives = refl
+
+more_primitives : rows.MorePrimitives
+unfolding common_lisp_text acl2_text common_lisp_symbols acl2_symbols acl2_package opening next_at step token_of command_of run output summary_text digits reserved_lisp reserved_own is_reserved table guard recognizer_guard relation_guard arithmetic_guard listing_guard naming_guard wanted recognized related computed listed named_by applied_to bounded
+more_primitives = refl
+
+field_over_primitive : rows.FieldOverPrimitive
+unfolding common_lisp_text acl2_text common_lisp_symbols acl2_symbols acl2_package opening next_at step token_of command_of run output summary_text digits reserved_lisp reserved_own is_reserved table guard recognizer_guard relation_guard arithmetic_guard listing_guard naming_guard wanted recognized related computed listed named_by applied_to bounded
+field_over_primitive = refl
+
+pub are_calls : rows.AreCalls
+are_calls = record { primitives = primitives; more_primitives = more_primitives; field_over_primitive = field_over_primitive }
+
+open_list : rows.OpenList
+unfolding common_lisp_text acl2_text common_lisp_symbols acl2_symbols acl2_package opening next_at step token_of command_of run output summary_text digits reserved_lisp reserved_own is_reserved table guard recognizer_guard relation_guard arithmetic_guard listing_guard naming_guard wanted recognized related computed listed named_by applied_to bounded
+open_list = refl
+
+stray_close : rows.StrayClose
+unfolding common_lisp_text acl2_text common_lisp_symbols acl2_symbols acl2_package opening next_at step token_of command_of run output summary_text digits reserved_lisp reserved_own is_reserved table guard recognizer_guard relation_guard arithmetic_guard listing_guard naming_guard wanted recognized related computed listed named_by applied_to bounded
+stray_close = refl
+
+literal_too_wide : rows.LiteralTooWide
+unfolding common_lisp_text acl2_text common_lisp_symbols acl2_symbols acl2_package opening next_at step token_of command_of run output summary_text digits reserved_lisp reserved_own is_reserved table guard recognizer_guard relation_guard arithmetic_guard listing_guard naming_guard wanted recognized related computed listed named_by applied_to bounded
+literal_too_wide = refl
+
+bad_dot : rows.BadDot
+unfolding common_lisp_text acl2_text common_lisp_symbols acl2_symbols acl2_package opening next_at step token_of command_of run output summary_text digits reserved_lisp reserved_own is_reserved table guard recognizer_guard relation_guard arithmetic_guard listing_guard naming_guard wanted recognized related computed listed named_by applied_to bounded
+bad_dot = refl
+
+comma_outside : rows.CommaOutside
+unfolding common_lisp_text acl2_text common_lisp_symbols acl2_symbols acl2_package opening next_at step token_of command_of run output summary_text digits reserved_lisp reserved_own is_reserved table guard recognizer_guard relation_guard arithmetic_guard listing_guard naming_guard wanted recognized related computed listed named_by applied_to bounded
+comma_outside = refl
+
+ratio : rows.Ratio
+unfolding common_lisp_text acl2_text common_lisp_symbols acl2_symbols acl2_package opening next_at step token_of command_of run output summary_text digits reserved_lisp reserved_own is_reserved table guard recognizer_guard relation_guard arithmetic_guard listing_guard naming_guard wanted recognized related computed listed named_by applied_to bounded
+ratio = refl
+
+unknown_package : rows.UnknownPackage
+unfolding common_lisp_text acl2_text common_lisp_symbols acl2_symbols acl2_package opening next_at step token_of command_of run output summary_text digits reserved_lisp reserved_own is_reserved table guard recognizer_guard relation_guard arithmetic_guard listing_guard naming_guard wanted recognized related computed listed named_by applied_to bounded
+unknown_package = refl
+
+open_string : rows.OpenString
+unfolding common_lisp_text acl2_text common_lisp_symbols acl2_symbols acl2_package opening next_at step token_of command_of run output summary_text digits reserved_lisp reserved_own is_reserved table guard recognizer_guard relation_guard arithmetic_guard listing_guard naming_guard wanted recognized related computed listed named_by applied_to bounded
+open_string = refl
+
+bad_byte : rows.BadByte
+unfolding common_lisp_text acl2_text common_lisp_symbols acl2_symbols acl2_package opening next_at step token_of command_of run output summary_text digits reserved_lisp reserved_own is_reserved table guard recognizer_guard relation_guard arithmetic_guard listing_guard naming_guard wanted recognized related computed listed named_by applied_to bounded
+bad_byte = refl
+
+too_deep : rows.TooDeep
+unfolding common_lisp_text acl2_text common_lisp_symbols acl2_symbols acl2_package opening next_at step token_of command_of run output summary_text digits reserved_lisp reserved_own is_reserved table guard recognizer_guard relation_guard arithmetic_guard listing_guard naming_guard wanted recognized related computed listed named_by applied_to bounded
+too_deep = refl
+
+pub end_in_faults : rows.EndInFaults
+end_in_faults = record { open_list = open_list; stray_close = stray_close; literal_too_wide = literal_too_wide; bad_dot = bad_dot; comma_outside = comma_outside; ratio = ratio; unknown_package = unknown_package; open_string = open_string; bad_byte = bad_byte; too_deep = too_deep }
