@@ -2,7 +2,7 @@
 use Rattle.std.specs.Prelude.{◌≡◌, ℕ, ◌+◌, ◌≤◌, List, [], ◌++◌, length, take, drop, Option, Some, None, refl}
 use Rattle.std.proofs.Common.{sym, ap, ◌∙◌, subst, arith}
 use Rattle.std.proofs.lemmas.List.{append_assoc, append-nil, drop-drop, length-append, take-take, drop-take, take-append-drop}
-use Rattle.acl_edge.specs.Outside.{Gives, Takes}
+use Rattle.acl_edge.specs.Outside.{Gives, Takes, TakesPart}
 
 pub Takes-nothing : (a : Option (List ℕ)) → Takes a a []
 Takes-nothing None = refl
@@ -41,3 +41,9 @@ pub Takes-more : (a b c : Option (List ℕ)) (bytes : List ℕ) (at n m k : ℕ)
 Takes-more a b c bytes at n m k e l p q =
     let P : List ℕ → Type 0 = λ x. Takes a c x in
     subst P (ap (λ (x : List ℕ). take at bytes ++ x) (take-take n m (drop at bytes) (omega arith)) ∙ sym (take_sum at n bytes)) (Takes-then a b c (take at bytes) (take n (take m (drop at bytes))) p q)
+
+-- what was written before a refused write
+pub stopped_part : (a b c : Option (List ℕ)) (bytes : List ℕ) (at : ℕ) → Takes a b (take at bytes) → c ≡ b → TakesPart a c bytes
+stopped_part a b c bytes at t e =
+    let P : Option (List ℕ) → Type 0 = λ o. Takes a o (take at bytes) in
+    record { part = take at bytes; rest = drop at bytes; split = sym (take-append-drop at bytes); takes = subst P (sym e) t }

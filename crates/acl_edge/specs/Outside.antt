@@ -16,6 +16,13 @@ abbrev pub Takes : Option (List ℕ) → Option (List ℕ) → List ℕ → Type
 Takes None new bytes = new ≡ None
 Takes (Some written) new bytes = new ≡ Some (written ++ bytes)
 
+-- a first part of these bytes was appended
+pub record TakesPart (old new : Option (List ℕ)) (bytes : List ℕ) : Type 0 where
+  pub part : List ℕ
+  pub rest : List ℕ
+  pub split : bytes ≡ part ++ rest
+  pub takes : Takes old new part
+
 -- the last value of a count
 abbrev pub last_count : ℕ
 last_count = 18446744073709551615

@@ -1,4 +1,3 @@
 pub mod TaskLemmas
 pub mod SymbolLemmas
 pub mod WriteLemmas
-pub mod TestLemmas

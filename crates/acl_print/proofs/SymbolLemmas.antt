@@ -1,8 +1,8 @@
 -- The home of a symbol, and whether the current package has it.
 use Rattle.std.specs.Prelude.{◌≡◌, ℕ, ◌<◌, ◌==◌, List, length, Bool, true, false, Option, Some, None, refl}
-use Rattle.std.proofs.Common.{sym, ap, ◌∙◌, subst, eq-eqb, arith}
+use Rattle.std.proofs.Common.{sym, ap, ◌∙◌, eq-eqb, arith}
 use Rattle.std.proofs.lemmas.Bool.Decides.{nat_tests}
-use Rattle.model_symbols.specs.Symbols.{QualifiedName, Package, Table, symbol_at, same_name, number_of, package_number, package_at}
+use Rattle.model_symbols.specs.Symbols.{Package, Table, symbol_at, same_name, number_of, package_number, package_at}
 use Rattle.model_symbols.specs.Tables.{IsTable, symbol_under, number_in}
 use Rattle.model_symbols.proofs.NameLemmas.{package-Some, package_at-is, same_name-Decides, number-Some, number-None, number-known, symbol_at-is, symbol-at}
 use Rattle.model_text.specs.Text.{is_at_home}

@@ -2,13 +2,6 @@
 use Rattle.std.specs.Prelude.{◌≡◌, ℕ, List, ◌++◌, Option}
 use Rattle.acl_edge.specs.Outside.{Takes}
 
--- a first part of these bytes was appended
-pub record TakesPart (old new : Option (List ℕ)) (bytes : List ℕ) : Type 0 where
-  pub part : List ℕ
-  pub rest : List ℕ
-  pub split : bytes ≡ part ++ rest
-  pub takes : Takes old new part
-
 -- a first part of the text was appended, and this is what follows it
 pub record Follows (old new : Option (List ℕ)) (text rest : List ℕ) : Type 0 where
   pub part : List ℕ

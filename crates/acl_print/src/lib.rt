@@ -2,11 +2,10 @@
 #![tactic(auto)]
 
 ghost use Rattle.std.specs.Prelude.{◌≡◌, ◌≤◌, ◌<◌, [], ◌∷◌, ◌++◌, length, IfOk, OnOk, OnErr, IsErrOf};
-ghost use Rattle.acl_edge.specs.Outside.{Takes, HasRisen};
+ghost use Rattle.acl_edge.specs.Outside.{Takes, TakesPart, HasRisen};
 ghost use Rattle.acl_forms.specs.Forms.{IsWhole};
 ghost use Rattle.acl_print.specs.Views.{printed};
 ghost use Rattle.acl_print.specs.Tasks.{AreReady, Steps, task_word};
-ghost use Rattle.acl_print.specs.Writing.{TakesPart};
 
 mod atoms;
 mod names;

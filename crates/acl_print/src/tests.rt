@@ -80,6 +80,7 @@ fn symbols_say_their_package_where_they_must(rt: HostRuntime) -> Result<(), Fail
     Ok(())
 }
 
+#[tactic(auto, using(acl_forms::proofs::WholeLemmas::pair_whole))]
 fn pair(heap: &mut Heap, syms: &Symbols, a: Word, d: Word) -> Result<Word, HeapFault>
     requires car { IsWhole syms.now heap.old a }
     requires cdr { IsWhole syms.now heap.old d }
@@ -91,6 +92,7 @@ fn pair(heap: &mut Heap, syms: &Symbols, a: Word, d: Word) -> Result<Word, HeapF
     Ok(w)
 }
 
+#[tactic(auto, using(acl_forms::proofs::WholeLemmas::integer_whole))]
 fn integer(heap: &mut Heap, syms: &Symbols, n: i128) -> Result<Word, HeapFault>
     ensures whole { IfOk result (IsWhole syms.now heap.new) }
     ensures grows { Grown syms.now syms.now heap.old heap.new }
@@ -100,6 +102,7 @@ fn integer(heap: &mut Heap, syms: &Symbols, n: i128) -> Result<Word, HeapFault>
     Ok(w)
 }
 
+#[tactic(auto, using(acl_forms::proofs::WholeLemmas::text_whole))]
 fn string(heap: &mut Heap, syms: &Symbols, bytes: &[u8]) -> Result<Word, HeapFault>
     ensures whole { IfOk result (IsWhole syms.now heap.new) }
     ensures grows { Grown syms.now syms.now heap.old heap.new }

@@ -7,7 +7,7 @@ use Rattle.std.proofs.lemmas.Bool.Decides.{nat_tests}
 use Rattle.acl_base.specs.declared.status.Status.{Status}
 use Rattle.acl_base.specs.declared.status.Status.TheVariants.{Done, Errors, Words, Text, ReadFault, WriteFault, Memory}
 use Rattle.model_symbols.specs.Symbols.{QualifiedName, same_name}
-use Rattle.acl_edge.specs.Outside.{Takes}
+use Rattle.acl_edge.specs.Outside.{Takes, TakesPart}
 use Rattle.acl_edge.proofs.EndLemmas.{Takes-nothing, Takes-then}
 use Rattle.model_output.specs.Text.{Form, forms_of, forms_of_tokens, tokens_of, most_bytes}
 use Rattle.model_output.specs.Commands.{Command, Define, Update, UpdateBy, Read, Other, command_of}
@@ -17,7 +17,7 @@ use Rattle.acl_session.specs.Views.{form_view, form_views}
 use Rattle.acl_session.specs.declared.forms.Form as code
 use Rattle.acl_session.specs.Sessions.{Answers}
 use Rattle.acl_session.specs.declared.session.Answer.{Answer}
-use Rattle.acl_session.specs.Runs.{Tells, IsInput, TakesPart, Ends, IsRun, Writing, Finishes, IsPlain, counted_by}
+use Rattle.acl_session.specs.Runs.{Tells, IsInput, Ends, IsRun, Writing, Finishes, IsPlain, counted_by}
 
 -- ---- parts
 

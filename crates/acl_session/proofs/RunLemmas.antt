@@ -1,16 +1,10 @@
 -- What was read and written so far.
 use Rattle.std.specs.Prelude.{◌≡◌, ℕ, ◌≤◌, ◌<◌, List, [], ◌++◌, length, take, drop, Option, Some, None}
-use Rattle.std.proofs.Common.{sym, ap, ◌∙◌, subst, arith}
-use Rattle.std.proofs.lemmas.List.{take-append-drop, take-take, take-append-le}
-use Rattle.acl_edge.specs.Outside.{Gives, Takes, IsSpent}
+use Rattle.std.proofs.Common.{ap, ◌∙◌, arith}
+use Rattle.std.proofs.lemmas.List.{take-take, take-append-le}
+use Rattle.acl_edge.specs.Outside.{Gives, IsSpent}
 use Rattle.model_output.specs.Text.{most_bytes}
-use Rattle.acl_session.specs.Runs.{IsInput, TakesPart}
-
--- what was written before a refused write
-pub stopped_part : (a b c : Option (List ℕ)) (bytes : List ℕ) (at : ℕ) → Takes a b (take at bytes) → c ≡ b → TakesPart a c bytes
-stopped_part a b c bytes at t e =
-    let P : Option (List ℕ) → Type 0 = λ o. Takes a o (take at bytes) in
-    record { part = take at bytes; rest = drop at bytes; split = sym (take-append-drop at bytes); takes = subst P (sym e) t }
+use Rattle.acl_session.specs.Runs.{IsInput}
 
 -- a source gave all, or more than a book may have
 pub input_long : (a b : Option (List ℕ)) (bytes : List ℕ) → Gives a b bytes → most_bytes < length bytes → IsInput a bytes

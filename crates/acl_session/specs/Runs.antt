@@ -1,6 +1,6 @@
 -- What a run reads and writes.
 use Rattle.std.specs.Prelude.{◌≡◌, ℕ, ◌≤◌, ◌+◌, List, ◌++◌, length, Option, Some, None}
-use Rattle.acl_edge.specs.Outside.{Takes}
+use Rattle.acl_edge.specs.Outside.{Takes, TakesPart}
 use Rattle.acl_base.specs.declared.status.Status.{Status}
 use Rattle.acl_base.specs.declared.status.Status.TheVariants.{Done, Errors, Words, Text, ReadFault, WriteFault, Memory}
 use Rattle.model_output.specs.Text.{most_bytes}
@@ -22,13 +22,6 @@ pub record IsFirstPart (left bytes : List ℕ) : Type 0 where
 abbrev pub IsInput : Option (List ℕ) → List ℕ → Type 0
 IsInput None bytes = Unit {0}
 IsInput (Some left) bytes = IsFirstPart left bytes
-
--- a first part of these bytes was appended
-pub record TakesPart (old new : Option (List ℕ)) (bytes : List ℕ) : Type 0 where
-  pub part : List ℕ
-  pub rest : List ℕ
-  pub split : bytes ≡ part ++ rest
-  pub takes : Takes old new part
 
 -- how a run ends, by its status: what a source had, what was written to a sink before and after, for this output
 abbrev pub Ends : Option (List ℕ) → Option (List ℕ) → Output → Status → Type 0

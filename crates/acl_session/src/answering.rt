@@ -2,21 +2,20 @@
 
 ghost use Rattle.std.specs.Prelude.{◌≡◌, ◌≤◌, IfOk, OnOk, OnErr, IsErrOf, codes};
 ghost use Rattle.std.specs.Option.{option_map};
-ghost use Rattle.acl_edge.specs.Outside.{Takes, HasRisen};
+ghost use Rattle.acl_edge.specs.Outside.{Takes, TakesPart, HasRisen};
 ghost use Rattle.model_output.specs.Text as text;
 ghost use Rattle.model_output.specs.Output as output;
 ghost use Rattle.model_output.specs.Sessions as sessions;
 ghost use Rattle.acl_session.specs.Views.{form_list, form_views};
-ghost use Rattle.acl_session.specs.Runs.{TakesPart, Finishes, IsPlain};
+ghost use Rattle.acl_session.specs.Runs.{Finishes, IsPlain};
 
 use crate::forms::{Form, forms_of};
 use crate::reading::MOST_BYTES;
 use crate::session::Session;
 use crate::tokens::tokens_of;
 use crate::totals::Totals;
-use crate::writing::write_all;
 use acl_base::Status;
-use acl_edge::{Failed, Sink};
+use acl_edge::{Failed, Sink, write_all};
 use std::alloc::{AllocError, AllocFailed, Global};
 
 /// Why an output was not written whole.

@@ -12,6 +12,5 @@ mod session;
 mod stobj;
 mod tokens;
 mod totals;
-mod writing;
 
 pub use running::run;

@@ -1,6 +1,5 @@
-use Rattle.std.specs.Prelude.{◌≡◌, refl, ◌++◌}
+use Rattle.std.specs.Prelude.{refl, ◌++◌}
 use Rattle.std.proofs.Common.{arith, rules}
-use Rattle.std.proofs.lemmas.Result.{err_from_is_err_and}
 use Rattle.acl_print.specs.Views.{printed}
 use Rattle.acl_print.specs.Tasks.{tasks_text}
 use Rattle.acl_print.proofs.TaskLemmas.{popped, stepped_text, stepped_work}

@@ -1,10 +1,9 @@
-//! Writing a line.
+//! Writing bytes whole.
 
 ghost use Rattle.std.specs.Prelude.{◌≡◌, ◌≤◌, ◌<◌, take, length, OnOk, OnErr};
-ghost use Rattle.acl_edge.specs.Outside.{Takes, HasRisen};
-ghost use Rattle.acl_session.specs.Runs.{TakesPart};
+ghost use Rattle.acl_edge.specs.Outside.{Takes, TakesPart, HasRisen};
 
-use acl_edge::{Failed, Sink};
+use crate::outside::{Failed, Sink};
 
 /// How many bytes are offered at once.
 const PIECE: usize = 65_536;

@@ -1,4 +1,4 @@
--- Words of the tests are whole.
+-- Words of new cells are whole.
 use Rattle.std.specs.Prelude.{◌≡◌, ℕ, List, ℤ, length}
 use Rattle.std.proofs.Common.{sym, subst}
 use Rattle.model_objects.specs.Object.{Object, Integer, Text, Pair}

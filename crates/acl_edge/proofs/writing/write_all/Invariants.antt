@@ -1,6 +1,6 @@
 use Rattle.std.proofs.Common.{◌≤◌, ◌-◌, length, take}
 use Rattle.acl_edge.specs.Outside.{Takes}
-use Rattle.acl_session.proofs.writing.write_all.Given as goal
+use Rattle.acl_edge.proofs.writing.write_all.Given as goal
 
 abbrev pub invariant-loop-at : goal.invariant-loop-at
 invariant-loop-at g l = record {

@@ -1,8 +1,7 @@
-use Rattle.std.proofs.Common.{◌≡◌, ◌+◌, ◌-◌, ◌≤◌, arith, length, drop, take, rules}
-use Rattle.std.proofs.lemmas.Result.{err_from_is_err_and}
-use Rattle.std.proofs.lemmas.List.{length-take, length-drop}
-use Rattle.acl_print.proofs.WriteLemmas.{Takes-more, stopped_part}
-use Rattle.acl_print.proofs.writing.write_all.Goals as goal
+use Rattle.std.proofs.Common.{◌≡◌, ◌+◌, ◌-◌, ◌≤◌, arith, drop, rules}
+use Rattle.std.proofs.lemmas.List.{length-take}
+use Rattle.acl_edge.proofs.EndLemmas.{Takes-more, stopped_part}
+use Rattle.acl_edge.proofs.writing.write_all.Goals as goal
 
 pub returns-in_err-at-clause-part : goal.returns-in_err-at-clause-part
 returns-in_err-at-clause-part g c =
