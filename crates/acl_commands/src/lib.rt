@@ -17,7 +17,8 @@ use acl_heap::{Heap, Seen};
 use acl_syms::Symbols;
 use definitions::definition;
 pub use definitions::NewField;
-use parts::{elements, home, is_named, is_nil, is_string, is_symbol, symbol_of};
+pub use parts::{home, is_named};
+use parts::{elements, is_nil, is_string, is_symbol, symbol_of};
 use std::alloc::{AllocError, Global};
 
 /// What stands as an actual of a call.

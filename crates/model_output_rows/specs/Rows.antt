@@ -66,8 +66,14 @@ pub record AreMixed : Type 0 where
 abbrev pub BadNames : Type 0
 BadNames = output (book (codes "(defstobj car (pc :type integer :initially 0))" ∷ codes "(defstobj st (:pc :type integer :initially 0))" ∷ codes "(defstobj *st* (pc :type integer :initially 0))" ∷ codes "(defstobj st (pc :type integer :initially 0) (t :type integer :initially 0))" ∷ codes "(defstobj ** (pc :type integer :initially 0))" ∷ [])) ≡ written (codes "Refused: BadName CAR" ∷ codes "Refused: BadName :PC" ∷ codes "Refused: BadName *ST*" ∷ codes "Refused: BadName T" ∷ codes "**" ∷ codes "; 5 commands, 0 calls, 4 errors" ∷ []) Errors
 
-abbrev pub NamesInUse : Type 0
-NamesInUse = output (book (codes "(defstobj st (nat :type integer :initially 0))" ∷ codes "(defstobj zip (pc :type integer :initially 0))" ∷ codes "(defstobj st (x :type integer :initially 0) (x :type integer :initially 0))" ∷ codes "(defstobj st (stp :type integer :initially 0))" ∷ codes "(defstobj st (zero :type integer :initially 0))" ∷ codes "(defstobj st (xargs :type integer :initially 0))" ∷ codes "(xargs st)" ∷ [])) ≡ written (codes "Refused: NameInUse NATP" ∷ codes "Refused: NameInUse ZIP" ∷ codes "Refused: NameInUse XP" ∷ codes "Refused: NameInUse STP" ∷ codes "Refused: NameInUse ZEROP" ∷ codes "ST" ∷ codes "0" ∷ codes "; 7 commands, 1 calls, 5 errors" ∷ []) Errors
+abbrev pub PrimitiveInUse : Type 0
+PrimitiveInUse = output (book (codes "(defstobj st (nat :type integer :initially 0))" ∷ codes "(defstobj zip (pc :type integer :initially 0))" ∷ [])) ≡ written (codes "Refused: NameInUse NATP" ∷ codes "Refused: NameInUse ZIP" ∷ codes "; 2 commands, 0 calls, 2 errors" ∷ []) Errors
+
+abbrev pub NameTwice : Type 0
+NameTwice = output (book (codes "(defstobj st (x :type integer :initially 0) (x :type integer :initially 0))" ∷ codes "(defstobj st (stp :type integer :initially 0))" ∷ [])) ≡ written (codes "Refused: NameInUse XP" ∷ codes "Refused: NameInUse STP" ∷ codes "; 2 commands, 0 calls, 2 errors" ∷ []) Errors
+
+abbrev pub ImportInUse : Type 0
+ImportInUse = output (book (codes "(defstobj st (zero :type integer :initially 0))" ∷ codes "(defstobj st (xargs :type integer :initially 0))" ∷ codes "(xargs st)" ∷ [])) ≡ written (codes "Refused: NameInUse ZEROP" ∷ codes "ST" ∷ codes "0" ∷ codes "; 3 commands, 1 calls, 1 errors" ∷ []) Errors
 
 abbrev pub BadNameBeforeNameInUse : Type 0
 BadNameBeforeNameInUse = output (book (codes "(defstobj nat (nat :type integer :initially 0) (car :type integer :initially 0))" ∷ [])) ≡ written (codes "Refused: BadName CAR" ∷ codes "; 1 commands, 0 calls, 1 errors" ∷ []) Errors
@@ -78,7 +84,9 @@ OtherDefinitions = output (book (codes "(defstobj st)" ∷ codes "(defstobj st p
 -- names and shapes of definitions
 pub record AreNamed : Type 0 where
   pub bad_names : BadNames
-  pub names_in_use : NamesInUse
+  pub primitive_in_use : PrimitiveInUse
+  pub name_twice : NameTwice
+  pub import_in_use : ImportInUse
   pub bad_name_before_name_in_use : BadNameBeforeNameInUse
   pub other_definitions : OtherDefinitions
 

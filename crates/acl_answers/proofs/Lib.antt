@@ -1,0 +1,3 @@
+pub mod StobjLemmas
+pub mod MakingLemmas
+pub mod NameLemmas

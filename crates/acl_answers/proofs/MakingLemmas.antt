@@ -1,0 +1,98 @@
+-- Names that become known, one after another.
+use Rattle.std.specs.Prelude.{◌≡◌, ℕ, ◌<◌, List, [], ◌∷◌, ◌++◌, length, map, Bool, true, false, not, ◌&&◌, Some, None, is_some, nat_lt, if◌then◌else◌, refl}
+use Rattle.std.proofs.Common.{sym, ap, ◌∙◌, subst, arith}
+use Rattle.std.specs.List.{All}
+use Rattle.std.proofs.lemmas.List.{append_assoc, append-nil}
+use Rattle.model_symbols.specs.Symbols.{QualifiedName, Package, Table, symbol_at, symbol_in, package_number, package_at, interned, is_known, is_one_too_many, most_symbols}
+use Rattle.model_symbols.specs.Growth.{Extends, IsSymbol}
+use Rattle.model_symbols.specs.Tables.{symbol_under, with_symbol, IsTable}
+use Rattle.model_symbols.proofs.NameLemmas.{symbol_at-is, symbol-at, number-known, is_known-is, interned-known}
+use Rattle.model_symbols.proofs.TableLemmas.{Extends-self, Extends-then}
+use Rattle.model_prims.specs.Applied.{package_called, package_or}
+use Rattle.model_output.specs.Events.{Room, beside, with_names}
+use Rattle.acl_syms.specs.Answers.{Interns}
+use Rattle.acl_forms.specs.Growth.{symbol_later}
+use Rattle.acl_base.specs.declared.SymId.{SymId}
+use Rattle.acl_answers.specs.Views.{name_of, names_of}
+use Rattle.acl_answers.specs.Whole.{IsKnown, AreKnown}
+use Rattle.acl_answers.specs.Making.{Makes, IsFull}
+
+-- the package of a symbol, by its number
+beside_is : (t : Table) (s : QualifiedName) (p : ℕ) (name : List ℕ) → package_number t.packages s.home ≡ Some p → beside t.packages s name ≡ symbol_under t p name
+beside_is t s p name e = ap (λ o. symbol_in (package_or t.packages s.home o) name) e
+
+room_one : (symbols : List QualifiedName) (s : QualifiedName) (rest : List QualifiedName) → is_one_too_many symbols s ≡ false → with_names symbols (s ∷ rest) ≡ with_names (interned symbols s) rest
+room_one symbols s rest e = rw e refl
+
+full_here : (symbols : List QualifiedName) (s : QualifiedName) (rest : List QualifiedName) → is_one_too_many symbols s ≡ true → with_names symbols (s ∷ rest) ≡ record { symbols = symbols; is_full = true }
+full_here symbols s rest e = rw e refl
+
+-- the name beside a symbol has become known
+pub made_one : (old new : Table) (s : QualifiedName) (p : ℕ) (name : List ℕ) (id : SymId) → package_number old.packages s.home ≡ Some p → Interns old new p name id.0 → id.0 < length new.symbols → Extends old new
+    → Makes old new (beside old.packages s name ∷ []) (id ∷ [])
+made_one old new s p name id e i k g =
+    let b = beside_is old s p name e in
+    record {
+      grows = g;
+      packages = ap (λ (t : Table). t.packages) i.table;
+      room = λ rest. rw (b, i.table) (room_one old.symbols (symbol_under old p name) rest i.room);
+      named = ap (λ (q : QualifiedName). q ∷ []) (symbol_at-is new.symbols id.0 (symbol_under old p name) i.number ∙ sym b);
+      known = (k, tt);
+    }
+
+-- there was no room for it
+pub full_one : (t : Table) (s : QualifiedName) (p : ℕ) (name : List ℕ) → package_number t.packages s.home ≡ Some p → is_one_too_many t.symbols (symbol_under t p name) ≡ true → IsFull t t (beside t.packages s name ∷ [])
+full_one t s p name e full = record {
+  grows = Extends-self t;
+  packages = refl;
+  room = λ rest. rw (beside_is t s p name e) (full_here t.symbols (symbol_under t p name) rest full);
+}
+
+-- a symbol that is known stays as it is
+known_room : (t : Table) → IsTable t → (s : SymId) → IsKnown t s → (rest : List QualifiedName) → with_names t.symbols (name_of t s ∷ rest) ≡ with_names t.symbols rest
+known_room t i s k rest =
+    let n = number-known t.symbols (name_of t s) s.0 i.distinct (symbol-at t.symbols s.0 k) in
+    let known : is_known t.symbols (name_of t s) ≡ true = is_known-is t.symbols (name_of t s) ∙ ap is_some n in
+    let few : is_one_too_many t.symbols (name_of t s) ≡ false = ap (λ b. not b && not (nat_lt (length t.symbols) most_symbols)) known in
+    room_one t.symbols (name_of t s) rest few ∙ ap (λ ss. with_names ss rest) (interned-known t.symbols (name_of t s) s.0 n)
+
+pub made_known : (t : Table) → IsTable t → (s : SymId) → IsKnown t s → Makes t t (name_of t s ∷ []) (s ∷ [])
+made_known t i s k = record { grows = Extends-self t; packages = refl; room = known_room t i s k; named = refl; known = (k, tt) }
+
+names_later : (a b : Table) → Extends a b → (ids : List SymId) → AreKnown a ids → names_of b ids ≡ names_of a ids
+names_later a b g [] k = refl
+names_later a b g (s ∷ ids) k = rw (symbol_later g s.0 k.0, names_later a b g ids k.1) refl
+
+known_later : (a b : Table) → Extends a b → (ids : List SymId) → AreKnown a ids → AreKnown b ids
+known_later a b g [] k = tt
+known_later a b g (s ∷ ids) k = (omega (arith, g.longer, k.0), known_later a b g ids k.1)
+
+known_both : (t : Table) (xs ys : List SymId) → AreKnown t xs → AreKnown t ys → AreKnown t (xs ++ ys)
+known_both t [] ys p q = q
+known_both t (x ∷ xs) ys p q = (p.0, known_both t xs ys p.1 q)
+
+names_both : (t : Table) (xs ys : List SymId) → names_of t (xs ++ ys) ≡ names_of t xs ++ names_of t ys
+names_both t [] ys = refl
+names_both t (x ∷ xs) ys = ap (λ (l : List QualifiedName). name_of t x ∷ l) (names_both t xs ys)
+
+pub made_then : (a b c : Table) (xs ys : List QualifiedName) (is js : List SymId) → Makes a b xs is → Makes b c ys js → Makes a c (xs ++ ys) (is ++ js)
+made_then a b c xs ys is js p q = record {
+  grows = Extends-then p.grows q.grows;
+  packages = q.packages ∙ p.packages;
+  room = λ rest. ap (with_names a.symbols) (append_assoc xs ys rest) ∙ (p.room (ys ++ rest) ∙ q.room rest);
+  named = names_both c is js ∙ (ap (λ (l : List QualifiedName). l ++ names_of c js) (names_later b c q.grows is p.known ∙ p.named) ∙ ap (λ (l : List QualifiedName). xs ++ l) q.named);
+  known = known_both c is js (known_later b c q.grows is p.known) q.known;
+}
+
+pub made_nothing : (t : Table) → Makes t t [] []
+made_nothing t = record { grows = Extends-self t; packages = refl; room = λ rest. refl; named = refl; known = tt }
+
+pub full_then : (a b c : Table) (xs ys : List QualifiedName) (is : List SymId) → Makes a b xs is → IsFull b c ys → IsFull a c (xs ++ ys)
+full_then a b c xs ys is p q = record {
+  grows = Extends-then p.grows q.grows;
+  packages = q.packages ∙ p.packages;
+  room = λ rest. ap (with_names a.symbols) (append_assoc xs ys rest) ∙ (p.room (ys ++ rest) ∙ q.room rest);
+}
+
+pub full_more : (a b : Table) (xs ys : List QualifiedName) → IsFull a b xs → IsFull a b (xs ++ ys)
+full_more a b xs ys q = record { grows = q.grows; packages = q.packages; room = λ rest. ap (with_names a.symbols) (append_assoc xs ys rest) ∙ q.room (ys ++ rest) }

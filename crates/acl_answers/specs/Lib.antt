@@ -1,0 +1,4 @@
+pub mod Views
+pub mod Whole
+pub mod Answers
+pub mod Making

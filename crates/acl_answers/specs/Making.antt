@@ -1,0 +1,22 @@
+-- Names that become known, one after another.
+use Rattle.std.specs.Prelude.{◌≡◌, ℕ, List, [], ◌∷◌, ◌++◌, length, true}
+use Rattle.model_symbols.specs.Symbols.{QualifiedName, Table}
+use Rattle.model_symbols.specs.Growth.{Extends}
+use Rattle.model_output.specs.Events.{Room, with_names, field_names, fields_names, new_names, recognizer, creator}
+use Rattle.acl_base.specs.declared.SymId.{SymId}
+use Rattle.acl_answers.specs.Views.{name_of, names_of}
+use Rattle.acl_answers.specs.Whole.{AreKnown}
+
+-- these names have become known, in this order, and are the symbols of these numbers
+pub record Makes (old new : Table) (names : List QualifiedName) (ids : List SymId) : Type 0 where
+  pub grows : Extends old new
+  pub packages : new.packages ≡ old.packages
+  pub room : (rest : List QualifiedName) → with_names old.symbols (names ++ rest) ≡ with_names new.symbols rest
+  pub named : names_of new ids ≡ names
+  pub known : AreKnown new ids
+
+-- there was no room for one of these names
+pub record IsFull (old new : Table) (names : List QualifiedName) : Type 0 where
+  pub grows : Extends old new
+  pub packages : new.packages ≡ old.packages
+  pub room : (rest : List QualifiedName) → with_names old.symbols (names ++ rest) ≡ record { symbols = new.symbols; is_full = true }

@@ -1,0 +1,123 @@
+//! The names of an object's functions.
+
+ghost use Rattle.std.specs.Prelude.{◌≡◌, ◌<◌, ◌++◌, ◌∷◌, [], length, map, IfOk, IfSome, OnErr, IsErrOf, Some, None, codes, option_map};
+ghost use Rattle.std.specs.Option.{option_map};
+ghost use Rattle.model_symbols.specs.Symbols.{Table, symbol_at};
+ghost use Rattle.model_symbols.specs.Growth.{Extends};
+ghost use Rattle.model_output.specs.Events as events;
+ghost use Rattle.acl_commands.specs.Views.{field_views};
+ghost use Rattle.acl_commands.specs.Whole as commands;
+ghost use Rattle.acl_answers.specs.Views.{name_of, names_of, fields_view};
+ghost use Rattle.acl_answers.specs.Whole.{IsKnown, AreKnown, AreKnownFields};
+ghost use Rattle.acl_answers.specs.Making.{Makes, IsFull};
+
+use crate::reserved::is_reserved;
+use crate::stobj::Field;
+use acl_base::SymId;
+use acl_commands::{NewField, home};
+use acl_syms::{SymFault, Symbols};
+use std::alloc::{AllocError, AllocFailed, Global};
+
+/// Why a name was not made.
+#[derive(Clone, Copy, Debug, PartialEq, Eq)]
+pub enum Unmade {
+    /// There are as many symbols as there may be.
+    Full,
+    Memory,
+}
+
+impl From<AllocError> for Unmade {
+    ghost use Rattle.acl_answers.specs.declared.naming.Unmade.TheVariants.{Memory};
+
+    ghost from_gives = { λ _ e. e ≡ Memory };
+
+    fn from(_: AllocError) -> Self {
+        Unmade::Memory
+    }
+}
+
+impl<T: Drop> From<AllocFailed<T>> for Unmade {
+    ghost use Rattle.acl_answers.specs.declared.naming.Unmade.TheVariants.{Memory};
+
+    ghost from_gives = { λ _ e. e ≡ Memory };
+
+    fn from(_: AllocFailed<T>) -> Self {
+        Unmade::Memory
+    }
+}
+
+/// The new names of an object's functions in their order, and its fields.
+#[derive(Debug, Drop)]
+pub struct Made {
+    pub names: Vec<SymId>,
+    pub fields: Vec<Field>,
+}
+
+/// A symbol's name between two texts.
+fn name_between(
+    alloc: Global,
+    syms: &Symbols,
+    before: &[u8],
+    s: SymId,
+    behind: &[u8],
+) -> Result<Vec<u8>, AllocError>
+    requires { IsKnown syms.now s }
+    ensures { IfOk result (λ name. name.items ≡ before.now ++ ((name_of syms.now s).name ++ behind.now)) }
+{
+    let mut name = Vec::from_slice(alloc, before)?;
+    name.extend_from_slice(syms.name(s))?;
+    name.extend_from_slice(behind)?;
+    Ok(name)
+}
+
+/// The symbol of a name in the package of another symbol, which becomes known.
+#[tactic(auto, using(crate::proofs::MakingLemmas::made_one, crate::proofs::MakingLemmas::full_one))]
+fn intern_beside(syms: &mut Symbols, s: SymId, name: &[u8]) -> Result<SymId, Unmade>
+    requires known { IsKnown syms.old s }
+    ensures ok { IfOk result (λ id. Makes syms.old syms.new (events.beside syms.old.packages (name_of syms.old s) name.now ∷ []) (id ∷ [])) }
+    ensures full { IsErrOf result Unmade.Full → IsFull syms.old syms.new (events.beside syms.old.packages (name_of syms.old s) name.now ∷ []) }
+    ensures err { OnErr result (syms.new ≡ syms.old) }
+{
+    let p = syms.package(s);
+    match syms.intern_in(p, name) {
+        Ok(id) => Ok(id),
+        Err(SymFault::TooMany) => Err(Unmade::Full),
+        Err(SymFault::Memory) => Err(Unmade::Memory),
+        Err(SymFault::UnknownPackage) => unreachable!(),
+        Err(SymFault::PackageExists) => unreachable!(),
+        Err(SymFault::ImportClash { first: _, second: _ }) => unreachable!(),
+    }
+}
+
+/// The functions of a field, beside the one that reads it: its recognizer, and the one that updates it.
+#[tactic(auto, using(crate::proofs::MakingLemmas::made_then, crate::proofs::MakingLemmas::made_known, crate::proofs::MakingLemmas::full_then, crate::proofs::MakingLemmas::full_more))]
+fn make_field(alloc: Global, syms: &mut Symbols, f: SymId) -> Result<(SymId, SymId), Unmade>
+    requires known { IsKnown syms.old f }
+    ensures ok { IfOk result (λ made. Makes syms.old syms.new (events.field_names syms.old.packages (name_of syms.old f)) (made.0 ∷ f ∷ made.1 ∷ [])) }
+    ensures full { IsErrOf result Unmade.Full → IsFull syms.old syms.new (events.field_names syms.old.packages (name_of syms.old f)) }
+    ensures grows { Extends syms.old syms.new }
+    ensures packages { syms.new.packages ≡ syms.old.packages }
+{
+    syms.is_table();
+    let recognizer_name = name_between(alloc, syms, b"", f, b"P")?;
+    let updater_name = name_between(alloc, syms, b"UPDATE-", f, b"")?;
+    let recognizer = intern_beside(syms, f, recognizer_name.as_slice())?;
+    let updater = intern_beside(syms, f, updater_name.as_slice())?;
+    Ok((recognizer, updater))
+}
+
+/// The functions of an object: its recognizer, and its creator.
+fn make_object(alloc: Global, syms: &mut Symbols, s: SymId) -> Result<(SymId, SymId), Unmade>
+    requires known { IsKnown syms.old s }
+    ensures ok { IfOk result (λ made. Makes syms.old syms.new (name_of syms.old s ∷ events.recognizer syms.old.packages (name_of syms.old s) ∷ events.creator syms.old.packages (name_of syms.old s) ∷ []) (s ∷ made.0 ∷ made.1 ∷ [])) }
+    ensures full { IsErrOf result Unmade.Full → IsFull syms.old syms.new (name_of syms.old s ∷ events.recognizer syms.old.packages (name_of syms.old s) ∷ events.creator syms.old.packages (name_of syms.old s) ∷ []) }
+    ensures grows { Extends syms.old syms.new }
+    ensures packages { syms.new.packages ≡ syms.old.packages }
+{
+    syms.is_table();
+    let recognizer_name = name_between(alloc, syms, b"", s, b"P")?;
+    let creator_name = name_between(alloc, syms, b"CREATE-", s, b"")?;
+    let recognizer = intern_beside(syms, s, recognizer_name.as_slice())?;
+    let creator = intern_beside(syms, s, creator_name.as_slice())?;
+    Ok((recognizer, creator))
+}
