@@ -6,3 +6,4 @@ pub mod Names
 pub mod Rowed
 pub mod Arguments
 pub mod Cases
+pub mod Opened

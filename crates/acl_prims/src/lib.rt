@@ -5,6 +5,7 @@ ghost use Rattle.std.specs.Prelude.{◌≡◌, ◌<◌, length, IfOk, OnErr};
 ghost use Rattle.model_objects.specs.Named.{Knows};
 ghost use Rattle.model_symbols.specs.Symbols.{symbol_at};
 ghost use Rattle.model_symbols.specs.Growth as growth;
+ghost use Rattle.model_symbols.specs.Opening.{opening};
 ghost use Rattle.model_prims.specs.Kinds.{by_number};
 ghost use Rattle.model_prims.specs.Values.{wanted};
 ghost use Rattle.model_prims.specs.Applied.{argument, bounded, applied_to, applied};
@@ -120,7 +121,9 @@ fn argument(args: &[Word], number: usize, _heap: &Heap, _syms: &Symbols) -> Word
 }
 
 /// The primitive of a row of the table applied to values: its guard is tested, and then it gives its value or stops.
-/// An answer other than Ok leaves the symbols as they are.
+/// An answer other than Ok leaves the symbols as they are. The symbols have grown from the opening table, whose first two
+/// are `T` and `NIL`.
+#[tactic(auto, using(crate::proofs::Opened::truth_known))]
 pub fn apply(
     alloc: Global,
     prim: u8,
@@ -130,7 +133,7 @@ pub fn apply(
 ) -> Result<Word, PrimStop>
     requires row { prim < length rows.table }
     requires args { AreWhole syms.old heap.old args.now }
-    requires truth { HasTruth syms.old }
+    requires opening { growth.Extends opening syms.old }
     ensures answer { IsAnswer heap.new syms.new.symbols (applied syms.old (rows.prim_of prim) (objects_of heap.old args.now)) result }
     ensures whole { IfOk result (IsWhole syms.new heap.new) }
     ensures grows { Grown syms.old syms.new heap.old heap.new }

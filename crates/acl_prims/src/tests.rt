@@ -121,9 +121,9 @@ fn answer(
     syms: &mut Symbols,
 ) -> Result<Result<Word, PrimStop>, HeapFault>
     requires row { row < length rows.table }
-    requires truth { HasTruth syms.old }
+    requires opening { growth.Extends opening syms.old }
     ensures whole { IfOk result (λ r. IfOk r (IsWhole syms.new heap.new)) }
-    ensures truth { HasTruth syms.new }
+    ensures opening { growth.Extends opening syms.new }
 {
     let x = made(case.1, heap, syms)?;
     let y = made(case.2, heap, syms)?;
