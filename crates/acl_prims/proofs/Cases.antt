@@ -17,4 +17,6 @@ whole_of t h w o d k = record { lies = d.lies; known = subst (λ (p : Object ℕ
 pub whole_later : (t : Table) (h h' : Objects) (w : Word) → Extends h h' → IsWhole t h w → IsWhole t h' w
 whole_later t h h' w e i = (Grown-heap e).whole w i
 
-pub ruleset later = (whole_later, truth_known, opened_at_first, opened_later)
+pub ruleset wholes = (whole_of, truth_known)
+
+pub ruleset later = (whole_later, opened_at_first, opened_later)

@@ -1,4 +1,3 @@
-pub mod Divided
 pub mod Weights
 pub mod Fronts
 pub mod Given

@@ -6,17 +6,16 @@ use Rattle.model_symbols.proofs.TableLemmas.{Extends-self, Extends-then}
 use Rattle.acl_heap.specs.Objects.{Objects}
 use Rattle.acl_forms.specs.Forms.{Grown}
 use Rattle.model_symbols.specs.Growth.{Extends}
-use Rattle.model_symbols.specs.Opening.{opening, common_lisp_symbols, common_lisp_text, acl2_symbols, acl2_text}
-use Rattle.acl_prims.specs.Answers.{HasTruth}
+use Rattle.model_symbols.specs.Opening.{opening, nil, common_lisp_symbols, common_lisp_text, acl2_symbols, acl2_text}
 
 many : (n : ℕ) → n ≡ 196 → 1 < n
 many n e = omega (arith, e)
 
-opening_truth : HasTruth opening
+opening_truth : nil < length opening.symbols
 unfolding opening common_lisp_symbols common_lisp_text acl2_symbols acl2_text
 opening_truth = many (length opening.symbols) refl
 
-pub truth_known : (t : Table) → Extends opening t → HasTruth t
+pub truth_known : (t : Table) → Extends opening t → nil < length t.symbols
 truth_known t e = omega (arith, e.longer, opening_truth)
 
 -- each table grew from the opening one that is it, or that a call made of such a table
