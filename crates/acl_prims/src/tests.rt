@@ -1,4 +1,6 @@
 ghost use Rattle.std.specs.Prelude.{◌<◌, length, IfOk, IfSome};
+ghost use Rattle.model_symbols.specs.Growth as growth;
+ghost use Rattle.model_symbols.specs.Opening.{opening};
 ghost use Rattle.model_prims.specs.Rows as rows;
 ghost use Rattle.acl_heap.specs.Objects.{Extends};
 ghost use Rattle.acl_forms.specs.Forms.{IsWhole};
