@@ -4,6 +4,7 @@ use Rattle.std.proofs.Common.{get_or, arith}
 use Rattle.model_objects.specs.Object.{Object, Symbol}
 use Rattle.model_objects.specs.Named.{Knows}
 use Rattle.model_symbols.specs.Symbols.{Table}
+use Rattle.model_symbols.specs.Opening.{nil}
 use Rattle.model_prims.specs.Kinds.{by_number}
 use Rattle.model_prims.specs.Applied.{argument, applied_to}
 use Rattle.model_prims.specs.declared.prim.Prim.{Prim}
@@ -11,8 +12,8 @@ use Rattle.model_prims.proofs.GivenLemmas.{gives_known}
 use Rattle.acl_base.specs.declared.Word.{Word}
 use Rattle.acl_heap.specs.Objects.{Objects, object_of}
 use Rattle.acl_forms.specs.Forms.{IsWhole, AreWhole}
-use Rattle.acl_prims.specs.declared.stops.PrimStop.{PrimStop}
-use Rattle.acl_prims.specs.Answers.{IsAnswer, HasTruth}
+use Rattle.acl_numbers.specs.declared.stops.PrimStop.{PrimStop}
+use Rattle.acl_numbers.specs.Answers.{IsAnswer}
 use Rattle.acl_prims.specs.Made.{objects_of}
 
 pub whole_at : (t : Table) (h : Objects) (ws : List Word) (n : ℕ) (d : Word) → AreWhole t h ws → n < length ws → IsWhole t h (get_or ws n d)
@@ -31,7 +32,7 @@ none_at h (w ∷ ws) zero l = absurd (omega arith)
 none_at h (w ∷ ws) (suc n) l = none_at h ws n (omega arith)
 
 -- the answer's value is whole, where the arguments are
-pub whole_answer : (t new : Table) (h : Objects) (p : Prim) (x y z : Object ℕ) (r : Result Word PrimStop) → HasTruth t
+pub whole_answer : (t new : Table) (h : Objects) (p : Prim) (x y z : Object ℕ) (r : Result Word PrimStop) → nil < length t.symbols
     → Knows (length t.symbols) x → Knows (length t.symbols) y → Knows (length t.symbols) z
     → IsAnswer h new.symbols (applied_to t p x y z) r → IfOk r (IsWhole new h)
 whole_answer t new h p x y z (Ok w) l i j k a = record { lies = a.lies; known = gives_known.known t p x y z (object_of h w) new.symbols l i j k a.gives }

@@ -9,7 +9,7 @@ use Rattle.acl_heap.specs.Objects.{Objects}
 use Rattle.acl_heap.specs.declared.HeapFault.{HeapFault}
 use Rattle.acl_heap.specs.declared.HeapFault.TheVariants.{TooLarge, Memory}
 use Rattle.acl_prims.specs.Made.{Holds}
-use Rattle.acl_prims.specs.Answers.{IsAnswer, answer_of}
+use Rattle.acl_numbers.specs.Answers.{IsAnswer, answer_of}
 
 pub given : (h : Objects) (symbols : List QualifiedName) (o : Object ℕ) (r : Result Word HeapFault) → Holds h o r → IsAnswer h symbols (weighed symbols o) (answer_of r)
 given h symbols o (Ok w) m = grind arith

@@ -1,4 +1,3 @@
-pub mod Divided
 pub mod Weights
 pub mod Fronts
 pub mod Given
@@ -6,3 +5,4 @@ pub mod Names
 pub mod Rowed
 pub mod Arguments
 pub mod Cases
+pub mod Opened

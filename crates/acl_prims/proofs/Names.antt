@@ -12,7 +12,7 @@ use Rattle.acl_base.specs.declared.SymId.{SymId}
 use Rattle.acl_base.specs.declared.Word.TheVariants.{Sym}
 use Rattle.acl_heap.specs.Objects.{Objects}
 use Rattle.acl_syms.specs.Answers.{Interns}
-use Rattle.acl_prims.specs.Answers.{IsGiven}
+use Rattle.acl_numbers.specs.Answers.{IsGiven}
 
 pub home_of : (ps : List Package) (name : List ℕ) (n : ℕ) → package_number ps name ≡ Some n → (package_at ps n).name ≡ name
 home_of ps name n e =

@@ -3,30 +3,14 @@
 ghost use Rattle.std.specs.Prelude.{◌≡◌};
 ghost use Rattle.acl_heap.specs.Objects.{object_of, Lies};
 ghost use Rattle.model_prims.specs.Kinds.{by_number};
-ghost use Rattle.model_prims.specs.Guards.{are_integers, can_divide, is_pair_or_nil, recognizer_guard, relation_guard, arithmetic_guard, listing_guard, naming_guard, guard};
+ghost use Rattle.model_prims.specs.Guards.{is_pair_or_nil, recognizer_guard, relation_guard, listing_guard, naming_guard, guard};
 
-use crate::kinds::{is_integer, is_natural, is_nil, is_pair, is_string, is_symbol, is_zero};
+use crate::kinds::{is_nil, is_pair, is_string, is_symbol};
 use crate::lists::{is_alist, is_true_list};
 use acl_base::Word;
 use acl_heap::Heap;
-use model_prims::{Arithmetic, Listing, Naming, Prim, Recognizer, Relation};
-
-fn are_integers(heap: &Heap, x: Word, y: Word) -> bool
-    requires x { Lies heap.now x }
-    requires y { Lies heap.now y }
-    ensures { result ≡ are_integers (object_of heap.now x) (object_of heap.now y) }
-{
-    is_integer(heap, x) && is_integer(heap, y)
-}
-
-/// Whether the two are integers, and the second is not 0.
-fn can_divide(heap: &Heap, x: Word, y: Word) -> bool
-    requires x { Lies heap.now x }
-    requires y { Lies heap.now y }
-    ensures { result ≡ can_divide by_number (object_of heap.now x) (object_of heap.now y) }
-{
-    are_integers(heap, x, y) && !is_zero(heap, y)
-}
+use acl_numbers::{are_integers, arithmetic_guard, is_integer, is_natural};
+use model_prims::{Listing, Naming, Prim, Recognizer, Relation};
 
 fn is_pair_or_nil(heap: &Heap, x: Word) -> bool
     requires { Lies heap.now x }
@@ -78,34 +62,6 @@ fn relation_guard(prim: Relation, heap: &Heap, x: Word, y: Word) -> bool
         Relation::Different => are_integers(heap, x, y),
         Relation::Implies => true,
         Relation::Iff => true,
-    }
-}
-
-#[tactic(auto, unfolding(model_prims::specs::Guards::arithmetic_guard))]
-fn arithmetic_guard(prim: Arithmetic, heap: &Heap, x: Word, y: Word) -> bool
-    requires x { Lies heap.now x }
-    requires y { Lies heap.now y }
-    ensures { result ≡ arithmetic_guard by_number prim (object_of heap.now x) (object_of heap.now y) }
-{
-    match prim {
-        Arithmetic::Plus => are_integers(heap, x, y),
-        Arithmetic::Times => are_integers(heap, x, y),
-        Arithmetic::Minus => is_integer(heap, x),
-        Arithmetic::Nfix => true,
-        Arithmetic::Ifix => true,
-        Arithmetic::Abs => is_integer(heap, x),
-        Arithmetic::Min => are_integers(heap, x, y),
-        Arithmetic::Max => are_integers(heap, x, y),
-        Arithmetic::Floor => can_divide(heap, x, y),
-        Arithmetic::Mod => can_divide(heap, x, y),
-        Arithmetic::Truncate => can_divide(heap, x, y),
-        Arithmetic::Rem => can_divide(heap, x, y),
-        Arithmetic::Expt => is_integer(heap, x) && is_natural(heap, y),
-        Arithmetic::Ash => are_integers(heap, x, y),
-        Arithmetic::Lognot => is_integer(heap, x),
-        Arithmetic::Logand => are_integers(heap, x, y),
-        Arithmetic::Logior => are_integers(heap, x, y),
-        Arithmetic::Logxor => are_integers(heap, x, y),
     }
 }
 

@@ -1,10 +1,8 @@
-//! What kind of object a word stands for, and what it counts as.
+//! What kind of object a word stands for.
 
-ghost use Rattle.std.specs.Prelude.{◌≡◌, pos};
+ghost use Rattle.std.specs.Prelude.{◌≡◌};
 ghost use Rattle.acl_heap.specs.Objects.{object_of, Lies};
-ghost use Rattle.model_objects.specs.Object.{Integer};
-ghost use Rattle.model_prims.specs.Kinds.{by_number, is_integer, is_symbol, is_string, is_pair, is_natural, is_positive, is_nil, is_boolean, same_object};
-ghost use Rattle.model_prims.specs.Numbers.{fix, natural_of};
+ghost use Rattle.model_prims.specs.Kinds.{by_number, is_symbol, is_string, is_pair, is_nil, is_boolean};
 
 use acl_base::Word;
 use acl_heap::{Heap, Seen};
@@ -33,18 +31,6 @@ pub fn is_nil(heap: &Heap, x: Word) -> bool
     }
 }
 
-pub fn is_integer(heap: &Heap, x: Word) -> bool
-    requires { Lies heap.now x }
-    ensures { result ≡ is_integer (object_of heap.now x) }
-{
-    match heap.look(x) {
-        Seen::Integer(_) => true,
-        Seen::Symbol(_) => false,
-        Seen::Text(_) => false,
-        Seen::Pair(_, _) => false,
-    }
-}
-
 pub fn is_symbol(heap: &Heap, x: Word) -> bool
     requires { Lies heap.now x }
     ensures { result ≡ is_symbol (object_of heap.now x) }
@@ -69,30 +55,6 @@ pub fn is_string(heap: &Heap, x: Word) -> bool
     }
 }
 
-pub fn is_natural(heap: &Heap, x: Word) -> bool
-    requires { Lies heap.now x }
-    ensures { result ≡ is_natural (object_of heap.now x) }
-{
-    match heap.look(x) {
-        Seen::Integer(n) => n >= 0,
-        Seen::Symbol(_) => false,
-        Seen::Text(_) => false,
-        Seen::Pair(_, _) => false,
-    }
-}
-
-pub fn is_positive(heap: &Heap, x: Word) -> bool
-    requires { Lies heap.now x }
-    ensures { result ≡ is_positive (object_of heap.now x) }
-{
-    match heap.look(x) {
-        Seen::Integer(n) => n > 0,
-        Seen::Symbol(_) => false,
-        Seen::Text(_) => false,
-        Seen::Pair(_, _) => false,
-    }
-}
-
 pub fn is_boolean(heap: &Heap, x: Word) -> bool
     requires { Lies heap.now x }
     ensures { result ≡ is_boolean by_number (object_of heap.now x) }
@@ -103,39 +65,4 @@ pub fn is_boolean(heap: &Heap, x: Word) -> bool
         Seen::Text(_) => false,
         Seen::Pair(_, _) => false,
     }
-}
-
-/// Whether the object is the integer 0.
-pub fn is_zero(heap: &Heap, x: Word) -> bool
-    requires { Lies heap.now x }
-    ensures { result ≡ same_object by_number (object_of heap.now x) (Integer (pos 0)) }
-{
-    match heap.look(x) {
-        Seen::Integer(n) => n == 0,
-        Seen::Symbol(_) => false,
-        Seen::Text(_) => false,
-        Seen::Pair(_, _) => false,
-    }
-}
-
-/// The integer that the object counts as: 0 where it is none.
-pub fn fix(heap: &Heap, x: Word) -> i128
-    requires { Lies heap.now x }
-    ensures { result ≡ fix (object_of heap.now x) }
-{
-    match heap.look(x) {
-        Seen::Integer(n) => n,
-        Seen::Symbol(_) => 0,
-        Seen::Text(_) => 0,
-        Seen::Pair(_, _) => 0,
-    }
-}
-
-/// The number that the object counts as: 0 where it is no integer, or one below 0.
-pub fn natural(heap: &Heap, x: Word) -> u128
-    requires { Lies heap.now x }
-    ensures { result ≡ natural_of (object_of heap.now x) }
-{
-    let n = fix(heap, x);
-    if n < 0 { 0 } else { n as u128 }
 }

@@ -5,6 +5,7 @@ ghost use Rattle.std.specs.Prelude.{◌≡◌, ◌<◌, length, IfOk, OnErr};
 ghost use Rattle.model_objects.specs.Named.{Knows};
 ghost use Rattle.model_symbols.specs.Symbols.{symbol_at};
 ghost use Rattle.model_symbols.specs.Growth as growth;
+ghost use Rattle.model_symbols.specs.Opening.{opening};
 ghost use Rattle.model_prims.specs.Kinds.{by_number};
 ghost use Rattle.model_prims.specs.Values.{wanted};
 ghost use Rattle.model_prims.specs.Applied.{argument, bounded, applied_to, applied};
@@ -12,29 +13,26 @@ ghost use Rattle.model_prims.specs.Rows as rows;
 ghost use Rattle.acl_heap.specs.Objects.{object_of, Lies, Extends};
 ghost use Rattle.acl_forms.specs.Forms.{IsWhole, AreWhole, Grown};
 ghost use Rattle.acl_prims.specs.Made.{objects_of};
-ghost use Rattle.acl_prims.specs.Answers.{IsAnswer, HasTruth};
+ghost use Rattle.acl_numbers.specs.Answers.{IsAnswer};
 
 mod guards;
-mod integers;
 mod kinds;
 mod listing;
 mod lists;
 mod making;
 mod naming;
-mod numbers;
 mod rows;
-mod stops;
 #[cfg(test)]
 mod tests;
 mod truths;
 
 use acl_base::{SymId, Word};
 use acl_heap::Heap;
+pub use acl_numbers::PrimStop;
 use acl_syms::Symbols;
 use model_prims::Prim;
-pub use rows::{PrimRow, table};
+pub use rows::{PrimRow, arity, find, table};
 use std::alloc::Global;
-pub use stops::PrimStop;
 
 const TRUTH: Word = Word::Sym(SymId(0));
 
@@ -68,7 +66,7 @@ fn value(
             let holds = truths::related(test, heap, x, y)?;
             Ok(truths::truth(heap, holds))
         }
-        Prim::Arithmetic(operation) => numbers::computed(operation, x, y, heap, syms),
+        Prim::Arithmetic(operation) => acl_numbers::computed(operation, x, y, heap, syms),
         Prim::Listing(operation) => listing::listed(alloc, operation, x, y, z, heap, syms),
         Prim::Naming(operation) => naming::named_by(alloc, operation, x, y, heap, syms),
         Prim::TheCheck => Ok(z),
@@ -105,9 +103,10 @@ fn apply_to(
 }
 
 /// The argument of this number; `NIL` where there is none.
+#[tactic(auto, using(crate::proofs::Opened::truth_known))]
 fn argument(args: &[Word], number: usize, _heap: &Heap, _syms: &Symbols) -> Word
     requires args { AreWhole _syms.now _heap.now args.now }
-    requires truth { HasTruth _syms.now }
+    requires opening { growth.Extends opening _syms.now }
     ensures lies { Lies _heap.now result }
     ensures is { object_of _heap.now result ≡ argument by_number (objects_of _heap.now args.now) number }
     ensures known { Knows (length _syms.now.symbols) (object_of _heap.now result) }
@@ -120,7 +119,8 @@ fn argument(args: &[Word], number: usize, _heap: &Heap, _syms: &Symbols) -> Word
 }
 
 /// The primitive of a row of the table applied to values: its guard is tested, and then it gives its value or stops.
-/// An answer other than Ok leaves the symbols as they are.
+/// An answer other than Ok leaves the symbols as they are. The symbols have grown from the opening table, whose first two
+/// are `T` and `NIL`.
 pub fn apply(
     alloc: Global,
     prim: u8,
@@ -130,7 +130,7 @@ pub fn apply(
 ) -> Result<Word, PrimStop>
     requires row { prim < length rows.table }
     requires args { AreWhole syms.old heap.old args.now }
-    requires truth { HasTruth syms.old }
+    requires opening { growth.Extends opening syms.old }
     ensures answer { IsAnswer heap.new syms.new.symbols (applied syms.old (rows.prim_of prim) (objects_of heap.old args.now)) result }
     ensures whole { IfOk result (IsWhole syms.new heap.new) }
     ensures grows { Grown syms.old syms.new heap.old heap.new }

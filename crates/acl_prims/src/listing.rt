@@ -6,15 +6,13 @@ ghost use Rattle.model_prims.specs.Kinds.{by_number};
 ghost use Rattle.model_prims.specs.Values.{listed, Update};
 ghost use Rattle.model_prims.specs.Lists.{size_of};
 ghost use Rattle.model_prims.specs.Applied.{bounded};
-ghost use Rattle.acl_prims.specs.Answers.{IsAnswer};
+ghost use Rattle.acl_numbers.specs.Answers.{IsAnswer};
 
-use crate::kinds::natural;
 use crate::lists::{assoc, car, cdr, element, len, member};
 use crate::making::{appended, revappended, union, updated};
-use crate::numbers::number;
-use crate::stops::{PrimStop, answer};
 use acl_base::Word;
 use acl_heap::{Heap, MAX_WEIGHT, Seen};
+use acl_numbers::{PrimStop, answer, natural, number};
 use acl_syms::Symbols;
 use model_prims::Listing;
 use std::alloc::Global;

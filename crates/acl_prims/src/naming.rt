@@ -7,15 +7,15 @@ ghost use Rattle.model_symbols.specs.Growth as growth;
 ghost use Rattle.acl_heap.specs.Objects.{object_of, Lies, Extends};
 ghost use Rattle.model_objects.specs.Object.{Text};
 ghost use Rattle.acl_prims.specs.Made.{Holds};
-ghost use Rattle.acl_prims.specs.Answers.{IsAnswer};
+ghost use Rattle.acl_numbers.specs.Answers.{IsAnswer};
 ghost use Rattle.model_prims.specs.Kinds.{by_number};
 ghost use Rattle.model_prims.specs.Values.{named_by, name_of, bytes_of, interned_beside, Interned};
 ghost use Rattle.model_prims.specs.Applied.{bounded};
 
 use crate::NIL;
-use crate::stops::{PrimStop, answer};
 use acl_base::{SymId, Word};
 use acl_heap::{Heap, HeapFault, Seen};
+use acl_numbers::{PrimStop, answer};
 use acl_syms::{SymFault, Symbols};
 use model_prims::Naming;
 use std::alloc::{AllocError, Global};

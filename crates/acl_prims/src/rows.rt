@@ -1,7 +1,8 @@
 //! The table of the primitives.
 
-ghost use Rattle.std.specs.Prelude.{◌≡◌, ◌<◌, length, map};
-ghost use Rattle.model_prims.specs.Rows.{table, prim_of};
+ghost use Rattle.std.specs.Prelude.{◌≡◌, ◌<◌, ◌&&◌, length, map, position, IfSome};
+ghost use Rattle.std.specs.Str.{bytes_eq};
+ghost use Rattle.model_prims.specs.Rows.{table, prim_of, arity_of, row_called};
 ghost use Rattle.acl_prims.specs.Tabled.{names_of, named_rows};
 
 use model_prims::{Arithmetic, Listing, Naming, Prim, Recognizer, Relation};
@@ -174,4 +175,30 @@ pub fn prim_at(row: u8) -> Prim
     ensures { result ≡ prim_of row }
 {
     PRIMS[row as usize]
+}
+
+/// How many arguments the primitive of a row takes.
+pub fn arity(row: u8) -> u8
+    requires { row < length table }
+    ensures { result ≡ arity_of row }
+{
+    table()[row as usize].arity
+}
+
+fn place(rows: &[PrimRow], name: &[u8], home: &[u8]) -> Option<usize>
+    ensures { result ≡ position (λ r. bytes_eq home.now r.package.now && bytes_eq name.now r.name.now) rows.now }
+{
+    rows.iter()
+        .position(|row| home == row.package && name == row.name)
+}
+
+/// The row of the primitive whose symbol has this name and this home package.
+pub fn find(name: &[u8], home: &[u8]) -> Option<u8>
+    ensures found { result ≡ row_called (record { home = home.now; name = name.now }) }
+    ensures row { IfSome result (λ row. row < length table) }
+{
+    match place(table(), name, home) {
+        Some(row) => Some(row as u8),
+        None => None,
+    }
 }

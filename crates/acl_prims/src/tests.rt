@@ -1,8 +1,9 @@
 ghost use Rattle.std.specs.Prelude.{◌<◌, length, IfOk, IfSome};
+ghost use Rattle.model_symbols.specs.Growth as growth;
+ghost use Rattle.model_symbols.specs.Opening.{opening};
 ghost use Rattle.model_prims.specs.Rows as rows;
 ghost use Rattle.acl_heap.specs.Objects.{Extends};
 ghost use Rattle.acl_forms.specs.Forms.{IsWhole};
-ghost use Rattle.acl_prims.specs.Answers.{HasTruth};
 
 use super::*;
 use acl_heap::HeapFault;
@@ -43,9 +44,9 @@ const MAX: i128 = i128::MAX;
 
 const MIN: i128 = i128::MIN;
 
-#[tactic(auto, using(crate::proofs::Cases::whole_of))]
+#[tactic(auto, using(crate::proofs::Cases::wholes))]
 fn ints(items: &[i128], heap: &mut Heap, syms: &Symbols) -> Result<Word, HeapFault>
-    requires { HasTruth syms.now }
+    requires { growth.Extends opening syms.now }
     ensures whole { IfOk result (IsWhole syms.now heap.new) }
     ensures grows { Extends heap.old heap.new }
 {
@@ -70,9 +71,9 @@ fn dotted(first: i128, second: i128, heap: &mut Heap, _syms: &Symbols) -> Result
     Ok(pair)
 }
 
-#[tactic(auto, using(crate::proofs::Cases::whole_of))]
+#[tactic(auto, using(crate::proofs::Cases::wholes))]
 fn made(given: Given, heap: &mut Heap, syms: &Symbols) -> Result<Word, HeapFault>
-    requires { HasTruth syms.now }
+    requires { growth.Extends opening syms.now }
     ensures whole { IfOk result (IsWhole syms.now heap.new) }
     ensures grows { Extends heap.old heap.new }
 {
@@ -98,18 +99,14 @@ fn made(given: Given, heap: &mut Heap, syms: &Symbols) -> Result<Word, HeapFault
     }
 }
 
+/// The row of a name, which no two packages share here.
 fn row_of(name: &[u8]) -> Option<u8>
     ensures { IfSome result (λ row. row < length rows.table) }
 {
-    let all = table();
-    let mut row: u8 = 0;
-    while row < 255 && (row as usize) < all.len() {
-        if all[row as usize].name == name {
-            return Some(row);
-        }
-        row += 1;
+    match find(name, b"COMMON-LISP") {
+        Some(row) => Some(row),
+        None => find(name, b"ACL2"),
     }
-    None
 }
 
 #[tactic(auto, using(crate::proofs::Cases::later))]
@@ -121,9 +118,9 @@ fn answer(
     syms: &mut Symbols,
 ) -> Result<Result<Word, PrimStop>, HeapFault>
     requires row { row < length rows.table }
-    requires truth { HasTruth syms.old }
+    requires opening { growth.Extends opening syms.old }
     ensures whole { IfOk result (λ r. IfOk r (IsWhole syms.new heap.new)) }
-    ensures truth { HasTruth syms.new }
+    ensures opening { growth.Extends opening syms.new }
 {
     let x = made(case.1, heap, syms)?;
     let y = made(case.2, heap, syms)?;

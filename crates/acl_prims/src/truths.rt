@@ -5,14 +5,12 @@ ghost use Rattle.acl_heap.specs.Objects.{object_of, Lies, Denotes};
 ghost use Rattle.model_prims.specs.Kinds.{by_number, truth_of};
 ghost use Rattle.model_prims.specs.Values.{recognized, related};
 
-use crate::kinds::{
-    fix, is_boolean, is_integer, is_natural, is_nil, is_pair, is_positive, is_string, is_symbol,
-    is_zero,
-};
+use crate::kinds::{is_boolean, is_nil, is_pair, is_string, is_symbol};
 use crate::lists::{is_alist, is_true_list, same};
 use crate::{NIL, TRUTH};
 use acl_base::Word;
 use acl_heap::Heap;
+use acl_numbers::{below, is_integer, is_natural, is_positive, is_zero};
 use model_prims::{Recognizer, Relation};
 use std::alloc::AllocError;
 
@@ -57,7 +55,7 @@ pub fn related(prim: Relation, heap: &Heap, x: Word, y: Word) -> Result<bool, Al
         Relation::Eq => same(heap, x, y),
         Relation::Eql => same(heap, x, y),
         Relation::Equal => same(heap, x, y),
-        Relation::Below => Ok(fix(heap, x) < fix(heap, y)),
+        Relation::Below => Ok(below(heap, x, y)),
         Relation::Same => same(heap, x, y),
         Relation::Different => {
             let equal = same(heap, x, y)?;

@@ -9,3 +9,4 @@ pub mod AtOnce
 pub mod ByName
 pub mod NamingLemmas
 pub mod FollowLemmas
+pub mod ValueLemmas

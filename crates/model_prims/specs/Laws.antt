@@ -2,7 +2,7 @@
 use Rattle.std.specs.Prelude.{◌≡◌, ◌≢◌, ℕ, ◌<◌, ◌^◌, List, length, ℤ, pos, negsuc, ◌+ℤ◌, ◌-ℤ◌, ◌*ℤ◌, neg_ℤ, true, unsigned_abs, bit_and, bit_or, bit_xor, FitsSigned}
 use Rattle.std.specs.Int.{w128, int_pow, int_bit_and, int_bit_or, int_bit_xor}
 use Rattle.std.specs.Bool.{Decides}
-use Rattle.model_objects.specs.Object.{Object, weight, fits_128, has_narrow_integers, max_weight}
+use Rattle.model_objects.specs.Object.{Object, weight, fits_128, has_narrow_integers, is_value, max_weight}
 use Rattle.model_objects.specs.Named.{Knows}
 use Rattle.model_symbols.specs.Symbols.{QualifiedName, Table, form_of}
 use Rattle.model_symbols.specs.Growth.{IsSymbol}
@@ -23,6 +23,11 @@ pub record IsEquality : Type 0 where
 pub record GivesKnown : Type 0 where
   pub known : (t : Table) (p : Prim) (x y z o : Object ℕ) (symbols : List QualifiedName) → nil < length t.symbols
       → Knows (length t.symbols) x → Knows (length t.symbols) y → Knows (length t.symbols) z → applied_to t p x y z ≡ Gives o symbols → Knows (length symbols) o
+
+-- what a checked primitive gives of values is a value
+pub record GivesValues : Type 0 where
+  pub value : (t : Table) (p : Prim) (x y z o : Object ℕ) (symbols : List QualifiedName) → is_value x ≡ true → is_value y ≡ true → is_value z ≡ true
+      → applied_to t p x y z ≡ Gives o symbols → is_value o ≡ true
 
 -- an integer below the bound in size, of the sign of the other or 0
 abbrev pub IsBelow : ℤ → ℕ → ℤ → Type 0

@@ -1,7 +1,7 @@
 -- The table of the primitives.
-use Rattle.std.specs.Prelude.{ℕ, List, [], ◌∷◌, map, codes, unwrap_or, slice_get}
+use Rattle.std.specs.Prelude.{ℕ, List, [], ◌∷◌, map, codes, Option, unwrap_or, slice_get, position}
 use Rattle.model_objects.specs.Object.{Object, Symbol, list_onto}
-use Rattle.model_symbols.specs.Symbols.{QualifiedName}
+use Rattle.model_symbols.specs.Symbols.{QualifiedName, same_name}
 use Rattle.model_symbols.specs.Opening.{common_lisp, acl2, common_lisp_symbols, acl2_symbols}
 use Rattle.model_prims.specs.Kinds.{SymbolKind, nil_of}
 use Rattle.model_prims.specs.declared.prim.Prim.{Prim}
@@ -95,6 +95,14 @@ no_row = lisp [] 0 TheCheck
 -- the primitive of a row
 abbrev pub prim_of : ℕ → Prim
 prim_of n = (unwrap_or (slice_get table n) no_row).prim
+
+-- how many arguments it takes
+abbrev pub arity_of : ℕ → ℕ
+arity_of n = (unwrap_or (slice_get table n) no_row).arity
+
+-- the row of the primitive of this symbol
+abbrev pub row_called : QualifiedName → Option ℕ
+row_called s = position (λ (r : Row). same_name s r.symbol) table
 
 -- ---- the two constants that stand beside the primitives
 

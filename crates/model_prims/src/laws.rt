@@ -1,6 +1,6 @@
 //! What is said of the primitives.
 
-ghost use Rattle.model_prims.specs.Laws.{IsEquality, GivesKnown, IsDivision, IsShift, IsBitwise, IsAtOnce, FollowsLogic};
+ghost use Rattle.model_prims.specs.Laws.{IsEquality, GivesKnown, GivesValues, IsDivision, IsShift, IsBitwise, IsAtOnce, FollowsLogic};
 
 /// Equality is what its test tells.
 #[tactic(auto, using(crate::proofs::LawLemmas::is_equality))]
@@ -12,6 +12,12 @@ pub fn equality_is_equality()
 #[tactic(auto, using(crate::proofs::GivenLemmas::gives_known))]
 pub fn values_are_known()
     ensures { GivesKnown }
+{}
+
+/// What is given of values is a value: its integers have 128 bits, and it is not too heavy.
+#[tactic(auto, using(crate::proofs::ValueLemmas::gives_values))]
+pub fn values_are_given()
+    ensures { GivesValues }
 {}
 
 /// Quotients and remainders belong together.

@@ -1,13 +1,15 @@
 //! The primitives that compute.
 
+ghost use Rattle.std.specs.Prelude.{IfSome};
 ghost use Rattle.acl_heap.specs.Objects.{object_of, Lies, Extends};
 ghost use Rattle.model_prims.specs.Kinds.{by_number};
 ghost use Rattle.model_prims.specs.Values.{computed, without_sign};
 ghost use Rattle.model_prims.specs.Applied.{bounded, number_or};
-ghost use Rattle.acl_prims.specs.Answers.{IsAnswer};
+ghost use Rattle.acl_numbers.specs.Answers.{IsAnswer, IsGiven};
 
 use crate::integers;
-use crate::kinds::{fix, is_integer, is_natural, natural};
+use crate::kinds::{fix, is_integer, is_natural, natural, small};
+use crate::narrow::{of_one, of_two};
 use crate::stops::PrimStop;
 use acl_base::Word;
 use acl_heap::{Heap, Seen};
@@ -48,8 +50,9 @@ fn without_sign(x: Word, heap: &mut Heap, syms: &Symbols) -> Result<Word, PrimSt
     }
 }
 
+/// What the primitive gives, in 128 bits.
 #[tactic(auto, unfolding(model_prims::specs::Applied::bounded, model_prims::specs::Values::computed))]
-pub fn computed(
+fn wide(
     prim: Arithmetic,
     x: Word,
     y: Word,
@@ -90,5 +93,42 @@ pub fn computed(
         Arithmetic::Logand => number(Some(integers::and(i, j)), heap, syms),
         Arithmetic::Logior => number(Some(integers::or(i, j)), heap, syms),
         Arithmetic::Logxor => number(Some(integers::xor(i, j)), heap, syms),
+    }
+}
+
+/// What the primitive gives, where 64 bits are enough for that.
+#[tactic(auto, using(crate::proofs::NarrowLemmas::operands))]
+fn narrow(prim: Arithmetic, x: Word, y: Word, _heap: &Heap, syms: &Symbols) -> Option<Word>
+    ensures { IfSome result (IsGiven _heap.now syms.now.symbols (bounded syms.now (computed by_number prim (object_of _heap.now x) (object_of _heap.now y)))) }
+{
+    let i = small(x)?;
+    match small(y) {
+        Some(j) => {
+            let n = of_two(prim, i, j, syms)?;
+            Some(Word::Small(n))
+        }
+        None => {
+            let n = of_one(prim, i, y, _heap, syms)?;
+            Some(Word::Small(n))
+        }
+    }
+}
+
+/// What a primitive that computes gives of two objects.
+pub fn computed(
+    prim: Arithmetic,
+    x: Word,
+    y: Word,
+    heap: &mut Heap,
+    syms: &Symbols,
+) -> Result<Word, PrimStop>
+    requires x { Lies heap.old x }
+    requires y { Lies heap.old y }
+    ensures answer { IsAnswer heap.new syms.now.symbols (bounded syms.now (computed by_number prim (object_of heap.old x) (object_of heap.old y))) result }
+    ensures grows { Extends heap.old heap.new }
+{
+    match narrow(prim, x, y, heap, syms) {
+        Some(word) => Ok(word),
+        None => wide(prim, x, y, heap, syms),
     }
 }

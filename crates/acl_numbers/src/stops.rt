@@ -1,7 +1,7 @@
 //! Why a call of a primitive stops.
 
 ghost use Rattle.std.specs.Prelude.{◌≡◌};
-ghost use Rattle.acl_prims.specs.Answers.{answer_of};
+ghost use Rattle.acl_numbers.specs.Answers.{answer_of};
 
 use acl_base::Word;
 use acl_heap::HeapFault;
@@ -23,7 +23,7 @@ pub enum PrimStop {
 }
 
 impl From<AllocError> for PrimStop {
-    ghost use Rattle.acl_prims.specs.declared.stops.PrimStop.TheVariants.{Memory};
+    ghost use Rattle.acl_numbers.specs.declared.stops.PrimStop.TheVariants.{Memory};
 
     ghost from_gives = { λ _ e. e ≡ Memory };
 

@@ -1,15 +1,14 @@
 -- What a call of a primitive answers.
-use Rattle.std.specs.Prelude.{◌≡◌, ◌<◌, List, length, Result, Ok, Err}
-use Rattle.model_symbols.specs.Symbols.{QualifiedName, Table}
-use Rattle.model_symbols.specs.Opening.{nil}
+use Rattle.std.specs.Prelude.{◌≡◌, List, Result, Ok, Err}
+use Rattle.model_symbols.specs.Symbols.{QualifiedName}
 use Rattle.model_prims.specs.Applied.{Applied, Gives, Stops}
 use Rattle.model_prims.specs.Applied as stop
 use Rattle.acl_base.specs.declared.Word.{Word}
 use Rattle.acl_heap.specs.Objects.{Objects, object_of, Lies}
 use Rattle.acl_heap.specs.declared.HeapFault.{HeapFault}
 use Rattle.acl_heap.specs.declared.HeapFault.TheVariants as fault
-use Rattle.acl_prims.specs.declared.stops.PrimStop.{PrimStop}
-use Rattle.acl_prims.specs.declared.stops.PrimStop.TheVariants as prim_stop
+use Rattle.acl_numbers.specs.declared.stops.PrimStop.{PrimStop}
+use Rattle.acl_numbers.specs.declared.stops.PrimStop.TheVariants as prim_stop
 
 -- the call stops for this reason; memory may be refused to any call
 abbrev pub IsStop : Applied → PrimStop → Type 0
@@ -27,10 +26,6 @@ pub record IsGiven (h : Objects) (symbols : List QualifiedName) (a : Applied) (w
 abbrev pub IsAnswer : Objects → List QualifiedName → Applied → Result Word PrimStop → Type 0
 IsAnswer h symbols a (Ok w) = IsGiven h symbols a w
 IsAnswer h symbols a (Err s) = IsStop a s
-
--- `T` and `NIL` are known
-abbrev pub HasTruth : Table → Type 0
-HasTruth t = nil < length t.symbols
 
 -- what becomes of a fault of the heap
 abbrev pub stop_of : HeapFault → PrimStop
