@@ -1,12 +1,12 @@
 -- What is known of a form that was read.
 use Rattle.std.specs.Prelude.{◌≡◌, ℕ, ◌<◌, ◌≤◌, nat_le, List, length, Bool, true, false, if◌then◌else◌, refl}
-use Rattle.std.proofs.Common.{sym, ap, ◌∙◌, arith}
+use Rattle.std.proofs.Common.{sym, ap, ◌∙◌, subst, arith}
 use Rattle.std.proofs.lemmas.Bool.Decides.{nat_tests}
 use Rattle.model_objects.specs.Object.{weight, max_weight}
 use Rattle.model_symbols.specs.Symbols.{QualifiedName, Table}
 use Rattle.model_symbols.specs.Growth.{IsSymbol, Extends}
 use Rattle.model_symbols.specs.Opening.{opening, common_lisp_symbols, common_lisp_text, acl2_symbols, acl2_text, acl2_package, nil_name, quote_name}
-use Rattle.model_symbols.proofs.TableLemmas.{Extends-then}
+use Rattle.model_symbols.proofs.TableLemmas.{Extends-self, Extends-then}
 use Rattle.model_text.specs.Token.{Form}
 use Rattle.model_text.specs.Backquote.{cons_name, append_name}
 use Rattle.model_text.specs.Next.{Gives, Fails, whole}
@@ -69,3 +69,6 @@ grown_after {t} {u} {h} {k} g n = Grown-then (Grown-symbols g.extends) n
 pub opening_many : (t : Table) → t ≡ opening → 2 < length t.packages
 unfolding opening
 opening_many t e = rw e (omega arith)
+
+pub opening_self : (t : Table) → t ≡ opening → Extends opening t
+opening_self t e = let P : Table → Type 0 = λ u. Extends opening u in subst P (sym e) (Extends-self opening)

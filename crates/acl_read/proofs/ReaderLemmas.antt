@@ -1,5 +1,5 @@
 -- A reader goes on where it stopped.
-use Rattle.std.specs.Prelude.{◌≡◌, ℕ, ◌+◌, ◌-◌, ◌≤◌, List, [], length, take, drop, refl}
+use Rattle.std.specs.Prelude.{◌≡◌, ℕ, ◌+◌, ◌-◌, ◌≤◌, List, [], length, take, drop, Option, Some, None, Ok, refl}
 use Rattle.std.proofs.Common.{sym, ap, ◌∙◌, arith}
 use Rattle.std.proofs.lemmas.List.{take-append-drop, drop-drop, take_all, take_rest, length-drop}
 use Rattle.model_symbols.specs.Symbols.{QualifiedName, Table}
@@ -7,10 +7,12 @@ use Rattle.model_text.specs.Token.{Packages}
 use Rattle.model_text.specs.Next.{State, Goes, run, after, nothing_read, answer, ended_step, next_at}
 use Rattle.model_text.proofs.RunLemmas.{run_append}
 use Rattle.acl_base.specs.declared.PkgId.{PkgId}
+use Rattle.acl_base.specs.declared.Word.{Word}
+use Rattle.acl_heap.specs.Objects.{Objects}
 use Rattle.acl_scan.specs.declared.Built.{Built}
 use Rattle.acl_scan.specs.Built.{state_at, IsBuilt, packages_of}
 use Rattle.acl_read.specs.declared.Reader.{Reader}
-use Rattle.acl_read.specs.Reading.{unread, offset_of, has_ended, Fits, HasBuiltNothing, IsFresh, next_of}
+use Rattle.acl_read.specs.Reading.{unread, offset_of, has_ended, Fits, HasBuiltNothing, IsReady, IsFresh, Takes, next_of}
 
 pub run_resumed : (p : Packages) (u s : State) (bytes : List ℕ) (from scanned : ℕ) → from ≤ scanned
     → run p u (take (scanned - from) (drop from bytes)) ≡ Goes s
@@ -74,3 +76,13 @@ fresh_fits r f l e s = λ t current. record {
   leads = ap (run (packages_of t current) (nothing_read t.symbols (offset_of r))) (none_taken (unread r) r.scanned r.from s)
       ∙ ap Goes (ap (nothing_read t.symbols) e ∙ fresh_state t r.built f);
 }
+
+-- ---- ready for the next call
+
+pub ready_still : (r s : Reader) → s.fault ≡ r.fault → ((start : List QualifiedName) (t : Table) (current : PkgId) → Fits start t current r → Fits start t current s)
+    → (t : Table) (current : PkgId) → IsReady t current r → IsReady t current s
+ready_still r s e h t current ready = λ none. let f = ready (sym e ∙ none) in (f.0, h f.0 t current f.1)
+
+pub ready_taken : (start : List QualifiedName) (t : Table) (h : Objects) (current : PkgId) (old new : Reader) (found : Option Word) → Takes start t h current old new (Ok found) → IsReady t current new
+ready_taken start t h current old new (Some w) k = λ none. (t.symbols, k.4 t current)
+ready_taken start t h current old new None k = λ none. (start, k.3)

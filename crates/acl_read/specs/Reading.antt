@@ -53,6 +53,11 @@ pub record Fits (start : List QualifiedName) (t : Table) (current : PkgId) (r : 
 abbrev pub HasBuiltNothing : Reader → Type 0
 HasBuiltNothing r = (t : Table) (current : PkgId) → Fits t.symbols t current r
 
+-- The reader may be asked for its next form, with this table and this current package: it has answered a fault, which it answers
+-- again, or what it has built fits.
+abbrev pub IsReady : Table → PkgId → Reader → Type 0
+IsReady t current r = fault_of r ≡ None → (start : List QualifiedName) × Fits start t current r
+
 -- what is answered is what stands first in the unread bytes, from these symbols
 abbrev pub Takes : List QualifiedName → Table → Objects → PkgId → Reader → Reader → Result (Option Word) TextFault → Type 0
 Takes start t h current old new (Ok (Some w)) =

@@ -4,10 +4,12 @@
 ghost use Rattle.std.specs.Prelude.{◌≤◌, vec_len};
 
 mod answering;
+mod growing;
 mod reading;
 
 use acl_scan::Built;
 pub use acl_scan::{TextCause, TextFault};
+pub use growing::growth_keeps_readers;
 use std::alloc::Global;
 
 /// A reader of forms.

@@ -8,7 +8,7 @@ ghost use Rattle.acl_base.specs.declared.PkgId.{PkgId};
 ghost use Rattle.acl_scan.specs.Built.{IsBuilt};
 ghost use Rattle.model_text.specs.declared.TextCause.TheVariants.{Memory};
 ghost use Rattle.acl_forms.specs.Forms.{Grown, IsWhole};
-ghost use Rattle.acl_read.specs.Reading.{IsFresh, unread, offset_of, has_ended, fault_of, Fits, HasBuiltNothing, Takes, FeedFault};
+ghost use Rattle.acl_read.specs.Reading.{IsFresh, unread, offset_of, has_ended, fault_of, Fits, HasBuiltNothing, IsReady, Takes, FeedFault};
 
 use crate::answering::next_word;
 use crate::{Reader, TextCause, TextFault};
@@ -84,6 +84,7 @@ impl Reader {
     }
 
     /// The next piece of the input. An `Err` changes nothing.
+    #[tactic(auto, using(crate::proofs::ReaderLemmas::ready_still))]
     pub fn feed(&mut self, piece: &[u8]) -> Result<(), TextFault>
         requires open { has_ended self.old ≡ false }
         ensures ok { OnOk result (unread self.new ≡ unread self.old ++ piece.now) }
@@ -94,6 +95,7 @@ impl Reader {
         ensures ended { has_ended self.new ≡ has_ended self.old }
         ensures fault { fault_of self.new ≡ fault_of self.old }
         ensures fits { (start : List QualifiedName) (t : Table) (current : PkgId) → Fits start t current self.old → Fits start t current self.new }
+        ensures ready { (t : Table) (current : PkgId) → IsReady t current self.old → IsReady t current self.new }
     {
         if let Some(fault) = self.fault {
             return Err(fault);
@@ -122,30 +124,34 @@ impl Reader {
     }
 
     /// The input has ended.
+    #[tactic(auto, using(crate::proofs::ReaderLemmas::ready_still))]
     pub fn finish(&mut self)
         ensures unread { unread self.new ≡ unread self.old }
         ensures offset { offset_of self.new ≡ offset_of self.old }
         ensures ended { has_ended self.new ≡ true }
         ensures fault { fault_of self.new ≡ fault_of self.old }
         ensures fits { (start : List QualifiedName) (t : Table) (current : PkgId) → Fits start t current self.old → Fits start t current self.new }
+        ensures ready { (t : Table) (current : PkgId) → IsReady t current self.old → IsReady t current self.new }
     {
         self.ended = true;
     }
 
     /// The next form; None where none has come whole, or where the input has ended and holds no further one. A fault is
     /// kept, and given again.
+    #[tactic(auto, using(crate::proofs::ReaderLemmas::ready_taken))]
     pub fn take(
         &mut self,
         heap: &mut Heap,
         syms: &mut Symbols,
         current: PkgId,
     ) -> Result<Option<Word>, TextFault>
-        requires fits { fault_of self.old ≡ None → (start : List QualifiedName) × Fits start syms.old current self.old }
+        requires fits { IsReady syms.old current self.old }
         requires package { current.0 < length syms.old.packages }
         requires opening { Extends opening syms.old }
         ensures grows { Grown syms.old syms.new heap.old heap.new }
         ensures packages { syms.new.packages ≡ syms.old.packages }
         ensures takes { fault_of self.old ≡ None → (start : List QualifiedName) → Fits start syms.old current self.old → Takes start syms.new heap.new current self.old self.new result }
+        ensures ready { IsReady syms.new current self.new }
         ensures whole { IfOk result (λ found. IfSome found (IsWhole syms.new heap.new)) }
         ensures memory { fault_of self.old ≡ None → IfErr result (λ e. e.cause ≡ Memory → e.offset ≡ 0) }
         ensures again { IfSome (fault_of self.old) (λ e. (result ≡ Err e) × (self.new ≡ self.old) × (syms.new ≡ syms.old) × (heap.new ≡ heap.old)) }
