@@ -16,6 +16,8 @@ use Rattle.acl_base.specs.declared.SymId.{SymId}
 use Rattle.acl_answers.specs.Views.{name_of, names_of}
 use Rattle.acl_answers.specs.Whole.{IsKnown, AreKnown}
 use Rattle.acl_answers.specs.Making.{Makes, IsFull}
+use Rattle.std.proofs.lemmas.List.Elements.{All-nil}
+use Rattle.acl_answers.proofs.AllLemmas.{all_first, all_rest, all_both, all_one, all_map}
 
 -- the package of a symbol, by its number
 beside_is : (t : Table) (s : QualifiedName) (p : ℕ) (name : List ℕ) → package_number t.packages s.home ≡ Some p → beside t.packages s name ≡ symbol_under t p name
@@ -37,7 +39,7 @@ made_one old new s p name id e i k g =
       packages = ap (λ (t : Table). t.packages) i.table;
       room = λ rest. rw (b, i.table) (room_one old.symbols (symbol_under old p name) rest i.room);
       named = ap (λ (q : QualifiedName). q ∷ []) (symbol_at-is new.symbols id.0 (symbol_under old p name) i.number ∙ sym b);
-      known = (k, tt);
+      known = all_one (IsKnown new) id k;
     }
 
 -- there was no room for it
@@ -57,19 +59,14 @@ known_room t i s k rest =
     room_one t.symbols (name_of t s) rest few ∙ ap (λ ss. with_names ss rest) (interned-known t.symbols (name_of t s) s.0 n)
 
 pub made_known : (t : Table) → IsTable t → (s : SymId) → IsKnown t s → Makes t t (name_of t s ∷ []) (s ∷ [])
-made_known t i s k = record { grows = Extends-self t; packages = refl; room = known_room t i s k; named = refl; known = (k, tt) }
+made_known t i s k = record { grows = Extends-self t; packages = refl; room = known_room t i s k; named = refl; known = all_one (IsKnown t) s k }
 
 names_later : (a b : Table) → Extends a b → (ids : List SymId) → AreKnown a ids → names_of b ids ≡ names_of a ids
 names_later a b g [] k = refl
-names_later a b g (s ∷ ids) k = rw (symbol_later g s.0 k.0, names_later a b g ids k.1) refl
+names_later a b g (s ∷ ids) k = rw (symbol_later g s.0 (all_first (IsKnown a) s ids k), names_later a b g ids (all_rest (IsKnown a) s ids k)) refl
 
 known_later : (a b : Table) → Extends a b → (ids : List SymId) → AreKnown a ids → AreKnown b ids
-known_later a b g [] k = tt
-known_later a b g (s ∷ ids) k = (omega (arith, g.longer, k.0), known_later a b g ids k.1)
-
-known_both : (t : Table) (xs ys : List SymId) → AreKnown t xs → AreKnown t ys → AreKnown t (xs ++ ys)
-known_both t [] ys p q = q
-known_both t (x ∷ xs) ys p q = (p.0, known_both t xs ys p.1 q)
+known_later a b g ids k = all_map (IsKnown a) (IsKnown b) (λ s l. omega (arith, g.longer, l)) ids k
 
 names_both : (t : Table) (xs ys : List SymId) → names_of t (xs ++ ys) ≡ names_of t xs ++ names_of t ys
 names_both t [] ys = refl
@@ -81,11 +78,11 @@ made_then a b c xs ys is js p q = record {
   packages = q.packages ∙ p.packages;
   room = λ rest. ap (with_names a.symbols) (append_assoc xs ys rest) ∙ (p.room (ys ++ rest) ∙ q.room rest);
   named = names_both c is js ∙ (ap (λ (l : List QualifiedName). l ++ names_of c js) (names_later b c q.grows is p.known ∙ p.named) ∙ ap (λ (l : List QualifiedName). xs ++ l) q.named);
-  known = known_both c is js (known_later b c q.grows is p.known) q.known;
+  known = all_both (IsKnown c) is js (known_later b c q.grows is p.known) q.known;
 }
 
 pub made_nothing : (t : Table) → Makes t t [] []
-made_nothing t = record { grows = Extends-self t; packages = refl; room = λ rest. refl; named = refl; known = tt }
+made_nothing t = record { grows = Extends-self t; packages = refl; room = λ rest. refl; named = refl; known = All-nil (IsKnown t) }
 
 pub full_then : (a b c : Table) (xs ys : List QualifiedName) (is : List SymId) → Makes a b xs is → IsFull b c ys → IsFull a c (xs ++ ys)
 full_then a b c xs ys is p q = record {

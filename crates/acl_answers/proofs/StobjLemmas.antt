@@ -14,6 +14,7 @@ use Rattle.acl_base.specs.declared.SymId.{SymId}
 use Rattle.acl_answers.specs.declared.stobj.Field.{Field}
 use Rattle.acl_answers.specs.Views.{name_of, field_view, fields_view}
 use Rattle.acl_answers.specs.Whole.{IsKnown, IsKnownField, AreKnownFields}
+use Rattle.acl_answers.proofs.AllLemmas.{all_first, all_rest, all_map}
 
 -- two tests of one question tell the same
 same_tests : {A : Type 0} (a b : Bool) → Decides a A → Decides b A → a ≡ b
@@ -34,19 +35,17 @@ same_number t i m n k l =
 -- tests that agree find the same place
 from_agrees : {X : Type 0} (p q : X → Bool) (i : ℕ) (xs : List X) → All (λ x. p x ≡ q x) xs → position_from p i xs ≡ position_from q i xs
 from_agrees p q i [] a = refl
-from_agrees p q i (x ∷ xs) a = rw (a.0, from_agrees p q (i + 1) xs a.1) refl
+from_agrees {X} p q i (x ∷ xs) a = rw (all_first (λ (y : X). p y ≡ q y) x xs a, from_agrees p q (i + 1) xs (all_rest (λ (y : X). p y ≡ q y) x xs a)) refl
 
 position_agrees : {X : Type 0} (p q : X → Bool) (xs : List X) → All (λ x. p x ≡ q x) xs → position p xs ≡ position q xs
 position_agrees p q xs a = position_from-zero p xs ∙ (from_agrees p q 0 xs a ∙ sym (position_from-zero q xs))
 
 module _ (t : Table) (i : IsTable t) (f : SymId) (k : IsKnown t f) where
   all_read : (fields : List Field) → AreKnownFields t fields → All (λ (g : Field). nat_eq f.0 g.name.0 ≡ same_name (name_of t f) (field_view t g).name) fields
-  all_read [] a = tt
-  all_read (g ∷ gs) a = (sym (same_number t i f.0 g.name.0 k a.0.0), all_read gs a.1)
+  all_read fields a = all_map (IsKnownField t) (λ (g : Field). nat_eq f.0 g.name.0 ≡ same_name (name_of t f) (field_view t g).name) (λ g l. sym (same_number t i f.0 g.name.0 k l.0)) fields a
 
   all_updated : (fields : List Field) → AreKnownFields t fields → All (λ (g : Field). nat_eq f.0 g.updater.0 ≡ same_name (name_of t f) (field_view t g).updater) fields
-  all_updated [] a = tt
-  all_updated (g ∷ gs) a = (sym (same_number t i f.0 g.updater.0 k a.0.1), all_updated gs a.1)
+  all_updated fields a = all_map (IsKnownField t) (λ (g : Field). nat_eq f.0 g.updater.0 ≡ same_name (name_of t f) (field_view t g).updater) (λ g l. sym (same_number t i f.0 g.updater.0 k l.1)) fields a
 
   pub read_position : (fields : List Field) → AreKnownFields t fields
       → position (λ (g : Field). nat_eq f.0 g.name.0) fields ≡ position (λ (g : model.Field). same_name (name_of t f) g.name) (fields_view t fields)

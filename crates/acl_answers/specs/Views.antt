@@ -60,5 +60,5 @@ Uses o f (Some (Updates k)) = (read_field o f ≡ None) × (updated_field o f �
 -- and of the object of a session, if it has one
 abbrev pub UsesOf : Option model.Stobj → QualifiedName → Option FieldUse → Type 0
 UsesOf None f None = Unit {0}
-UsesOf None f (Some use) = ⊥
-UsesOf (Some o) f use = Uses o f use
+UsesOf None f (Some u) = ⊥
+UsesOf (Some o) f u = Uses o f u

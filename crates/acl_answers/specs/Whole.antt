@@ -1,5 +1,5 @@
 -- Sessions whose symbols and package are known.
-use Rattle.std.specs.Prelude.{ℕ, ◌<◌, List, length, Option, IfSome}
+use Rattle.std.specs.Prelude.{◌≡◌, ◌<◌, List, length, Option, IfSome}
 use Rattle.std.specs.List.{All}
 use Rattle.model_symbols.specs.Symbols.{Table}
 use Rattle.acl_base.specs.declared.SymId.{SymId}
@@ -22,8 +22,11 @@ IsKnownField t f = IsKnown t f.name × IsKnown t f.updater
 abbrev pub AreKnownFields : Table → List Field → Type 0
 AreKnownFields t fields = All (IsKnownField t) fields
 
-abbrev pub IsKnownStobj : Table → Stobj → Type 0
-IsKnownStobj t o = IsKnown t o.name × AreKnownFields t o.fields.items
+-- its symbols are known, and each field has a value
+pub record IsKnownStobj (t : Table) (o : Stobj) : Type 0 where
+  pub name : IsKnown t o.name
+  pub fields : AreKnownFields t o.fields.items
+  pub same : length o.fields.items ≡ length o.values.items
 
 pub record IsSession (t : Table) (s : Session) : Type 0 where
   pub current : s.current.0 < length t.packages

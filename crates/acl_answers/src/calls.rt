@@ -1,6 +1,8 @@
 //! Calls of functions on constants and the live object.
 
 ghost use Rattle.std.specs.Prelude.{◌≡◌, ◌<◌, length, IfOk, IfSome, Some, None};
+ghost use Rattle.model_objects.specs.Object.{Symbol};
+ghost use Rattle.model_symbols.specs.Symbols.{QualifiedName};
 ghost use Rattle.model_symbols.specs.Growth.{Extends};
 ghost use Rattle.model_symbols.specs.Opening.{opening};
 ghost use Rattle.model_output.specs.Objects as objects;
@@ -216,4 +218,45 @@ fn update_call(
     }
     let answer = refused(alloc, Refusal::NotYet, heap, syms, current)?;
     Ok(answer)
+}
+
+/// A call of a function on constants and the object.
+pub fn call(
+    alloc: Global,
+    f: SymId,
+    actuals: &[Actual],
+    heap: &mut Heap,
+    syms: &mut Symbols,
+    session: &mut Session,
+) -> Result<Answer, AllocError>
+    requires opening { Extends opening syms.old }
+    requires f { IsKnown syms.old f }
+    requires actuals { AreWholeActuals syms.old heap.old actuals.now }
+    requires session { IsSession syms.old session.old }
+    ensures answers { IfOk result (Answers (running.object_call (session_view syms.old session.old) (session_view syms.old session.old).object (name_of syms.old f) (actual_views syms.old heap.old actuals.now)) (session_view syms.new session.new)) }
+    ensures session { IfOk result (λ _. IsSession syms.new session.new) }
+    ensures grows { Grown syms.old syms.new heap.old heap.new }
+    ensures packages { syms.new.packages ≡ syms.old.packages }
+{
+    let current = session.current;
+    match field_use(session, f, syms) {
+        Some(FieldUse::Reads(k)) => match &session.object {
+            Some(object) => {
+                let answer = read_call(alloc, object, k, actuals, heap, syms, current)?;
+                Ok(answer)
+            }
+            None => unreachable!(),
+        },
+        Some(FieldUse::Updates(k)) => match &mut session.object {
+            Some(object) => {
+                let answer = update_call(alloc, object, f, k, actuals, heap, syms, current)?;
+                Ok(answer)
+            }
+            None => unreachable!(),
+        },
+        None => {
+            let answer = primitive_call(alloc, f, actuals, heap, syms, current)?;
+            Ok(answer)
+        }
+    }
 }

@@ -1,6 +1,6 @@
 //! The names of an object's functions.
 
-ghost use Rattle.std.specs.Prelude.{◌≡◌, ◌<◌, ◌++◌, ◌∷◌, [], length, map, IfOk, IfSome, OnErr, IsErrOf, Some, None, codes, option_map};
+ghost use Rattle.std.specs.Prelude.{◌≡◌, ◌<◌, ◌++◌, ◌∷◌, [], length, map, IfOk, IfSome, OnErr, IsErrOf, Some, None, codes, ◌||◌};
 ghost use Rattle.std.specs.Option.{option_map};
 ghost use Rattle.model_symbols.specs.Symbols.{Table, symbol_at};
 ghost use Rattle.model_symbols.specs.Growth.{Extends};
@@ -9,7 +9,9 @@ ghost use Rattle.acl_commands.specs.Views.{field_views};
 ghost use Rattle.acl_commands.specs.Whole as commands;
 ghost use Rattle.acl_answers.specs.Views.{name_of, names_of, fields_view};
 ghost use Rattle.acl_answers.specs.Whole.{IsKnown, AreKnown, AreKnownFields};
-ghost use Rattle.acl_answers.specs.Making.{Makes, IsFull};
+ghost use Rattle.acl_answers.specs.Making.{Makes, IsFull, HasFields};
+ghost use Rattle.std.specs.Str.{bytes_eq};
+ghost use Rattle.model_symbols.specs.Opening.{common_lisp, keyword, hidden};
 
 use crate::reserved::is_reserved;
 use crate::stobj::Field;
@@ -120,4 +122,119 @@ fn make_object(alloc: Global, syms: &mut Symbols, s: SymId) -> Result<(SymId, Sy
     let recognizer = intern_beside(syms, s, recognizer_name.as_slice())?;
     let creator = intern_beside(syms, s, creator_name.as_slice())?;
     Ok((recognizer, creator))
+}
+
+// ---- which names may be taken
+
+/// Whether a name has the shape of a constant's: at least three bytes that begin and end with `*`.
+fn has_constant_shape(name: &[u8]) -> bool
+    ensures { result ≡ events.has_constant_shape name.now }
+{
+    name.len() >= 3 && (name[0] == b'*' && name[name.len() - 1] == b'*')
+}
+
+/// Whether nobody may define the symbols of a package of this name.
+fn is_closed(home: &[u8]) -> bool
+    ensures { result ≡ (bytes_eq home.now common_lisp || (bytes_eq home.now keyword || bytes_eq home.now hidden)) }
+{
+    home == b"COMMON-LISP".as_slice() || (home == b"KEYWORD".as_slice() || home == b"%".as_slice())
+}
+
+/// Whether a symbol may name an object or a field.
+fn may_name(syms: &Symbols, s: SymId) -> bool
+    requires { IsKnown syms.now s }
+    ensures { result ≡ events.may_name (name_of syms.now s) }
+{
+    !is_closed(home(syms, s)) && !has_constant_shape(syms.name(s))
+}
+
+fn first_bad_field(fields: &[NewField], syms: &Symbols) -> Option<SymId>
+    requires { commands.AreKnownFields syms.now fields.now }
+    ensures is { option_map (name_of syms.now) result ≡ events.first_bad (events.names_of (field_views syms.now fields.now)) }
+    ensures known { IfSome result (IsKnown syms.now) }
+{
+    for field in fields {
+        if !may_name(syms, field.name) {
+            return Some(field.name);
+        }
+    }
+    None
+}
+
+/// The first of the names of an object and its fields that they cannot have.
+pub fn first_bad(object: SymId, fields: &[NewField], syms: &Symbols) -> Option<SymId>
+    requires object { IsKnown syms.now object }
+    requires fields { commands.AreKnownFields syms.now fields.now }
+    ensures is { option_map (name_of syms.now) result ≡ events.first_bad (name_of syms.now object ∷ events.names_of (field_views syms.now fields.now)) }
+    ensures known { IfSome result (IsKnown syms.now) }
+{
+    if may_name(syms, object) {
+        first_bad_field(fields, syms)
+    } else {
+        Some(object)
+    }
+}
+
+/// The first name that is taken, or that comes again.
+pub fn first_in_use(
+    alloc: Global,
+    names: &[SymId],
+    syms: &Symbols,
+) -> Result<Option<SymId>, AllocError>
+    requires { AreKnown syms.now names.now }
+    ensures is { IfOk result (λ found. option_map (name_of syms.now) found ≡ events.first_in_use (names_of syms.now names.now)) }
+    ensures known { IfOk result (λ found. IfSome found (IsKnown syms.now)) }
+{
+    syms.is_table();
+    let mut comes_later = vec![in alloc; false; syms.count() as usize]?;
+    let mut found = None;
+    let mut left = names.len();
+    while left > 0 {
+        left -= 1;
+        let name = names[left];
+        if is_reserved(syms, name) | comes_later[name.0 as usize] {
+            found = Some(name);
+        }
+        comes_later[name.0 as usize] = true;
+    }
+    Ok(found)
+}
+
+// ---- all names of a definition
+
+/// The names of an object's functions and of its fields', all of which become known.
+pub fn new_names(
+    alloc: Global,
+    syms: &mut Symbols,
+    object: SymId,
+    fields: &[NewField],
+) -> Result<Made, Unmade>
+    requires object { IsKnown syms.old object }
+    requires fields { commands.AreKnownFields syms.old fields.now }
+    ensures ok { IfOk result (λ made. Makes syms.old syms.new (events.new_names syms.old.packages (name_of syms.old object) (events.names_of (field_views syms.old fields.now))) made.names.items) }
+    ensures fields { IfOk result (λ made. HasFields syms.new (field_views syms.new fields.now) made.fields.items) }
+    ensures full { IsErrOf result Unmade.Full → IsFull syms.old syms.new (events.new_names syms.old.packages (name_of syms.old object) (events.names_of (field_views syms.old fields.now))) }
+    ensures grows { Extends syms.old syms.new }
+    ensures packages { syms.new.packages ≡ syms.old.packages }
+{
+    let (recognizer, creator) = make_object(alloc, syms, object)?;
+    let mut names = Vec::new(alloc);
+    names.push(object)?;
+    names.push(recognizer)?;
+    names.push(creator)?;
+    let mut made = Vec::new(alloc);
+    for field in fields {
+        let (recognizer, updater) = make_field(alloc, syms, field.name)?;
+        names.push(recognizer)?;
+        names.push(field.name)?;
+        names.push(updater)?;
+        made.push(Field {
+            name: field.name,
+            updater,
+        })?;
+    }
+    Ok(Made {
+        names,
+        fields: made,
+    })
 }

@@ -200,11 +200,22 @@ fn own_names() -> &'static [&'static [u8]]
     &OWN_NAMES
 }
 
-#[tactic(auto, using(crate::proofs::NameLemmas::any_named))]
 fn is_among(name: &[u8], names: &[&[u8]]) -> bool
-    ensures { result ≡ list_any (bytes_eq name.now) (map (λ other. other.now) names.now) }
+    ensures { result ≡ list_any (λ other. bytes_eq name.now other.now) names.now }
 {
     names.iter().any(|other| name == *other)
+}
+
+fn is_lisp_name(name: &[u8]) -> bool
+    ensures { result ≡ list_any (bytes_eq name.now) reserved.reserved_lisp }
+{
+    is_among(name, lisp_names())
+}
+
+fn is_own_name(name: &[u8]) -> bool
+    ensures { result ≡ list_any (bytes_eq name.now) reserved.reserved_own }
+{
+    is_among(name, own_names())
 }
 
 /// Whether a symbol is the name of a head, a built-in macro, a core form or a primitive.
@@ -215,6 +226,7 @@ pub fn is_reserved(syms: &Symbols, s: SymId) -> bool
 {
     let name = syms.name(s);
     let home = home(syms, s);
-    (home == b"COMMON-LISP".as_slice() && is_among(name, lisp_names()))
-        || (home == b"ACL2".as_slice() && is_among(name, own_names()))
+    let is_lisp = (home == b"COMMON-LISP".as_slice()) & is_lisp_name(name);
+    let is_own = (home == b"ACL2".as_slice()) & is_own_name(name);
+    is_lisp | is_own
 }

@@ -23,7 +23,6 @@ pub struct Stobj {
     pub name: SymId,
     pub fields: Vec<Field>,
     pub values: Vec<i128>,
-    ghost same: { length fields.items ≡ length values.items },
 }
 
 /// What a function does with a field of an object, by the field's number.

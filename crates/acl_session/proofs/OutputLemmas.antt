@@ -1,22 +1,15 @@
 -- An output, as far as it was written.
-use Rattle.std.specs.Prelude.{◌≡◌, ℤ, ℕ, ◌+◌, ◌≤◌, ◌<◌, ◌==◌, List, [], ◌∷◌, ◌++◌, length, drop, Bool, true, false, Option, Some, None, if◌then◌else◌, nat_le, refl}
-use Rattle.std.proofs.Common.{sym, ap, ◌∙◌, subst, arith, get_or}
-use Rattle.std.specs.Option.{option_and_then}
-use Rattle.std.proofs.lemmas.List.{append_assoc, append-nil, drop_more, drop_all, length-append}
+use Rattle.std.specs.Prelude.{◌≡◌, ℕ, ◌+◌, ◌≤◌, ◌<◌, List, [], ◌∷◌, ◌++◌, length, Bool, true, false, Option, Some, None, if◌then◌else◌, nat_le, codes, refl}
+use Rattle.std.proofs.Common.{sym, ap, ◌∙◌, subst, arith}
+use Rattle.std.proofs.lemmas.List.{append_assoc, append-nil, length-append}
 use Rattle.std.proofs.lemmas.Bool.Decides.{nat_tests}
 use Rattle.acl_base.specs.declared.status.Status.{Status}
 use Rattle.acl_base.specs.declared.status.Status.TheVariants.{Done, Errors, Words, Text, ReadFault, WriteFault, Memory}
-use Rattle.model_symbols.specs.Symbols.{QualifiedName, same_name}
 use Rattle.acl_edge.specs.Outside.{Takes, TakesPart}
 use Rattle.acl_edge.proofs.EndLemmas.{Takes-nothing, Takes-then}
-use Rattle.model_output.specs.Text.{Form, forms_of, forms_of_tokens, tokens_of, most_bytes}
-use Rattle.model_output.specs.Commands.{Command, Define, Update, UpdateBy, Read, Other, command_of}
 use Rattle.model_output.specs.Sessions as sessions
-use Rattle.model_output.specs.Output.{Output, Totals, output, before, line, answers, answered, counted, ended, no_totals, summary_text, fault_text, faulty, one_if}
-use Rattle.acl_session.specs.Views.{form_view, form_views}
-use Rattle.acl_session.specs.declared.forms.Form as code
-use Rattle.acl_session.specs.Sessions.{Answers}
-use Rattle.acl_session.specs.declared.session.Answer.{Answer}
+use Rattle.model_output.specs.Output.{Output, Totals, output, before, line, answers, no_totals, summary_text, fault_text, faulty, one_if, most_bytes}
+use Rattle.acl_answers.specs.declared.Answer.{Answer}
 use Rattle.acl_session.specs.Runs.{Tells, IsInput, Ends, IsRun, Writing, Finishes, IsPlain, counted_by}
 
 -- ---- parts
@@ -41,141 +34,83 @@ part_first a b x z p = record { part = p.part; rest = p.rest ++ z; split = ap (�
 
 -- ---- a book's commands
 
-pub calls_most : (s : sessions.Session) (c : Command) → (sessions.run s c).calls ≤ 1
-unfolding sessions.run
-calls_most s c = go s.object c where
-  read : (o : sessions.Stobj) (k : Option ℕ) → (sessions.was_read s o k).calls ≤ 1
-  read o None = omega arith
-  read o (Some k) = omega arith
-
-  update : (o : sessions.Stobj) (k : Option ℕ) (n : ℤ) → (sessions.updated s o k n).calls ≤ 1
-  update o None n = omega arith
-  update o (Some k) n = omega arith
-
-  violate : (o : sessions.Stobj) (f : QualifiedName) (k : Option ℕ) (t : QualifiedName) → (sessions.violated s o f k t).calls ≤ 1
-  violate o f None t = omega arith
-  violate o f (Some k) t = omega arith
-
-  either : (t : Bool) (a b : sessions.Answered) → a.calls ≤ 1 → b.calls ≤ 1 → (if t then a else b).calls ≤ 1
-  either true a b p q = p
-  either false a b p q = q
-
-  go : (o : Option sessions.Stobj) (d : Command) → (sessions.run_with s o d).calls ≤ 1
-  go None (Define x fs) = omega arith
-  go None (Update f n x) = omega arith
-  go None (UpdateBy f t x) = omega arith
-  go None (Read f x) = omega arith
-  go None Other = omega arith
-  go (Some o) (Define x fs) = omega arith
-  go (Some o) (Update f n x) = either (same_name x o.name) (sessions.updated s o (sessions.updated_number o f) n) (sessions.refused s) (update o (sessions.updated_number o f) n) (omega arith)
-  go (Some o) (UpdateBy f t x) = either (same_name x o.name) (sessions.violated s o f (sessions.updated_number o f) t) (sessions.refused s) (violate o f (sessions.updated_number o f) t) (omega arith)
-  go (Some o) (Read f x) = either (same_name x o.name) (sessions.was_read s o (sessions.field_number o f)) (sessions.refused s) (read o (sessions.field_number o f)) (omega arith)
-  go (Some o) Other = omega arith
-
--- the output of the commands from here on
-left_more : (s : sessions.Session) (t : Totals) (forms : List code.Form) (i : ℕ) (f : code.Form) → i < length forms → f ≡ get_or forms i f
-    → answers s t (form_views (drop i forms)) ≡ (let a = sessions.run s (command_of (form_view f)) in before (line a.line) (answers a.session (counted t a) (form_views (drop (i + 1) forms))))
-left_more s t forms i f l e =
-    let at : drop i forms ≡ f ∷ drop (i + 1) forms = drop_more forms i f l ∙ ap (λ (g : code.Form). g ∷ drop (i + 1) forms) (sym e) in
-    ap (λ (fs : List code.Form). answers s t (form_views fs)) at
-
-said : (a : sessions.Answered) (s : sessions.Session) (t : Totals) (after : sessions.Session) (answer : Answer) (rest : List Form) → Answers a after answer
-    → before (line a.line) (answers a.session (counted t a) rest) ≡ before (line answer.line.items) (answers after (counted_by t answer) rest)
-said a s t after answer rest h = rw (h.says.line, h.session, h.says.calls, h.says.is_error) refl
-
-pub writing_start : (a : Option (List ℕ)) (all : Output) → Writing a a all all
+writing_start : (a : Option (List ℕ)) (all : Output) → Writing a a all all
 writing_start a all = record { part = []; takes = Takes-nothing a; whole = refl }
 
-pub writing_next : (a b c : Option (List ℕ)) (s after : sessions.Session) (t t' : Totals) (forms : List code.Form) (i : ℕ) (f : code.Form) (answer : Answer) (all : Output)
-    → Writing a b (answers s t (form_views (drop i forms))) all → i < length forms → f ≡ get_or forms i f → Answers (sessions.run s (command_of (form_view f))) after answer → t' ≡ counted_by t answer
-    → Takes b c (line answer.line.items) → Writing a c (answers after t' (form_views (drop (i + 1) forms))) all
-writing_next a b c s after t t' forms i f answer all w l e h q k = record {
-  part = w.part ++ line answer.line.items;
-  takes = Takes-then a b c w.part (line answer.line.items) w.takes k;
-  whole = before_both w.part (line answer.line.items) (answers after t' (form_views (drop (i + 1) forms)))
-      ∙ (ap (λ (u : Totals). before w.part (before (line answer.line.items) (answers after u (form_views (drop (i + 1) forms))))) q
-      ∙ (ap (before w.part) (sym (said (sessions.run s (command_of (form_view f))) s t after answer (form_views (drop (i + 1) forms)) h) ∙ sym (left_more s t forms i f l e)) ∙ w.whole));
+-- a line more was written of what is left
+pub writing_line : (a b c : Option (List ℕ)) (text : List ℕ) (left rest all : Output) → Writing a b left all → left ≡ before (line text) rest → Takes b c (line text) → Writing a c rest all
+writing_line a b c text left rest all w e k = record {
+  part = w.part ++ line text;
+  takes = Takes-then a b c w.part (line text) w.takes k;
+  whole = before_both w.part (line text) rest ∙ (ap (before w.part) (sym e) ∙ w.whole);
 }
 
 -- a part of what is left is a part of all
-cut : (a c : Option (List ℕ)) (part x y : List ℕ) (all : Output) (o : Output) → before part (before x o) ≡ all → TakesPart a c (part ++ (x ++ o.bytes)) → TakesPart a c all.bytes
-cut a c part x y all o e p = let P : Output → Type 0 = λ (r : Output). TakesPart a c r.bytes in subst P e p
-
-pub writing_cut : (a b c : Option (List ℕ)) (s after : sessions.Session) (t : Totals) (forms : List code.Form) (i : ℕ) (f : code.Form) (answer : Answer) (all : Output)
-    → Writing a b (answers s t (form_views (drop i forms))) all → i < length forms → f ≡ get_or forms i f → Answers (sessions.run s (command_of (form_view f))) after answer
-    → TakesPart b c (line answer.line.items) → TakesPart a c all.bytes
-writing_cut a b c s after t forms i f answer all w l e h p =
-    let rest = answers after (counted_by t answer) (form_views (drop (i + 1) forms)) in
-    cut a c w.part (line answer.line.items) [] all rest
-    (ap (before w.part) (sym (said (sessions.run s (command_of (form_view f))) s t after answer (form_views (drop (i + 1) forms)) h) ∙ sym (left_more s t forms i f l e)) ∙ w.whole)
-    (part_behind a b c w.part (line answer.line.items) rest.bytes w.takes p)
+pub writing_cut : (a b c : Option (List ℕ)) (text : List ℕ) (left rest all : Output) → Writing a b left all → left ≡ before (line text) rest → TakesPart b c (line text) → TakesPart a c all.bytes
+writing_cut a b c text left rest all w e p =
+    let P : Output → Type 0 = λ (r : Output). TakesPart a c r.bytes in
+    subst P (ap (before w.part) (sym e) ∙ w.whole) (part_behind a b c w.part (line text) rest.bytes w.takes p)
 
 pub writing_so_far : (a b : Option (List ℕ)) (left all : Output) → Writing a b left all → TakesPart a b all.bytes
 writing_so_far a b left all w =
     let P : Output → Type 0 = λ (r : Output). TakesPart a b r.bytes in
     subst P w.whole (part_whole a b w.part left.bytes w.takes)
 
--- the summary is what is left
-summary_left : (a b : Option (List ℕ)) (s : sessions.Session) (t : Totals) (forms : List code.Form) (i : ℕ) (all : Output) → Writing a b (answers s t (form_views (drop i forms))) all → length forms ≤ i → Writing a b (ended t) all
-summary_left a b s t forms i all w l =
-    record { part = w.part; takes = w.takes; whole = ap (λ (fs : List code.Form). before w.part (answers s t (form_views fs))) (sym (drop_all i forms l)) ∙ w.whole }
-
-pub writing_last_cut : (a b c : Option (List ℕ)) (s : sessions.Session) (t : Totals) (forms : List code.Form) (i : ℕ) (all : Output) (text : List ℕ)
-    → Writing a b (answers s t (form_views (drop i forms))) all → length forms ≤ i → text ≡ summary_text t → TakesPart b c (line text) → TakesPart a c all.bytes
-writing_last_cut a b c s t forms i all text w l e p =
-    let v = summary_left a b s t forms i all w l in
-    let Q : List ℕ → Type 0 = λ (x : List ℕ). TakesPart b c (line x) in
-    let P : Output → Type 0 = λ (r : Output). TakesPart a c r.bytes in
-    let q = part_behind a b c v.part (line (summary_text t)) [] v.takes (subst Q e p) in
-    let R : List ℕ → Type 0 = λ (x : List ℕ). TakesPart a c (v.part ++ x) in
-    subst P v.whole (subst R (append-nil (line (summary_text t))) q)
-
-pub writing_done : (a b c : Option (List ℕ)) (s : sessions.Session) (t : Totals) (forms : List code.Form) (i : ℕ) (all : Output) (text : List ℕ) (status : Status)
-    → Writing a b (answers s t (form_views (drop i forms))) all → length forms ≤ i → text ≡ summary_text t → Takes b c (line text) → status ≡ (if t.errors == 0 then Done else Errors) → Finishes a c all status
-writing_done a b c s t forms i all text status w l e k q =
-    let v = summary_left a b s t forms i all w l in
-    let Q : List ℕ → Type 0 = λ (x : List ℕ). Takes b c (line x) in
+-- what was left was written whole
+pub writing_done : (a b c : Option (List ℕ)) (left all : Output) (status : Status) → Writing a b left all → Finishes b c left status → Finishes a c all status
+writing_done a b c left all status w f =
     let P : Output → Type 0 = λ (r : Output). Finishes a c r status in
-    subst P v.whole (Takes-then a b c v.part (line (summary_text t)) v.takes (subst Q e k), q)
+    subst P w.whole (Takes-then a b c w.part left.bytes w.takes f.0, f.1)
 
--- ---- an input that is no book
+-- a part of it was written
+pub writing_last_cut : (a b c : Option (List ℕ)) (left all : Output) → Writing a b left all → TakesPart b c left.bytes → TakesPart a c all.bytes
+writing_last_cut a b c left all w p =
+    let P : Output → Type 0 = λ (r : Output). TakesPart a c r.bytes in
+    let Q : List ℕ → Type 0 = λ (x : List ℕ). TakesPart a c (w.part ++ x) in
+    subst P w.whole (subst Q (append-nil left.bytes) (part_behind a b c w.part left.bytes [] w.takes p))
 
-pub fault_cut : (a b : Option (List ℕ)) → TakesPart a b (line fault_text) → TakesPart a b faulty.bytes
-unfolding faulty
-fault_cut a b p = part_first a b (line fault_text) (line (summary_text no_totals)) p
+-- ---- a text fault
 
-pub fault_between : (a b : Option (List ℕ)) → Takes a b (line fault_text) → TakesPart a b faulty.bytes
-unfolding faulty
-fault_between a b t = part_whole a b (line fault_text) (line (summary_text no_totals)) t
+pub fault_cut : (a b : Option (List ℕ)) (t : Totals) (name : List ℕ) (at : ℕ) (text : List ℕ) → text ≡ fault_text name at → TakesPart a b (line text) → TakesPart a b (faulty t name at).bytes
+fault_cut a b t name at text e p =
+    let Q : List ℕ → Type 0 = λ (x : List ℕ). TakesPart a b (line x) in
+    part_first a b (line (fault_text name at)) (line (summary_text t)) (subst Q e p)
 
-pub fault_last_cut : (a b c : Option (List ℕ)) (text : List ℕ) → text ≡ summary_text no_totals → Takes a b (line fault_text) → TakesPart b c (line text) → TakesPart a c faulty.bytes
-unfolding faulty
-fault_last_cut a b c text e t p =
+pub fault_between : (a b : Option (List ℕ)) (t : Totals) (name : List ℕ) (at : ℕ) (text : List ℕ) → text ≡ fault_text name at → Takes a b (line text) → TakesPart a b (faulty t name at).bytes
+fault_between a b t name at text e k =
+    let Q : List ℕ → Type 0 = λ (x : List ℕ). Takes a b (line x) in
+    part_whole a b (line (fault_text name at)) (line (summary_text t)) (subst Q e k)
+
+pub fault_last_cut : (a b c : Option (List ℕ)) (t : Totals) (name : List ℕ) (at : ℕ) (text last : List ℕ) → text ≡ fault_text name at → last ≡ summary_text t → Takes a b (line text) → TakesPart b c (line last)
+    → TakesPart a c (faulty t name at).bytes
+fault_last_cut a b c t name at text last e f k p =
     let Q : List ℕ → Type 0 = λ (x : List ℕ). TakesPart b c (line x) in
-    let R : List ℕ → Type 0 = λ (x : List ℕ). TakesPart a c (line fault_text ++ x) in
-    subst R (append-nil (line (summary_text no_totals))) (part_behind a b c (line fault_text) (line (summary_text no_totals)) [] t (subst Q e p))
+    let S : List ℕ → Type 0 = λ (x : List ℕ). Takes a b (line x) in
+    let R : List ℕ → Type 0 = λ (x : List ℕ). TakesPart a c (line (fault_text name at) ++ x) in
+    subst R (append-nil (line (summary_text t))) (part_behind a b c (line (fault_text name at)) (line (summary_text t)) [] (subst S e k) (subst Q f p))
 
-pub fault_done : (a b c : Option (List ℕ)) (text : List ℕ) → text ≡ summary_text no_totals → Takes a b (line fault_text) → Takes b c (line text) → Finishes a c faulty Text
-unfolding faulty
-fault_done a b c text e t k =
+pub fault_done : (a b c : Option (List ℕ)) (t : Totals) (name : List ℕ) (at : ℕ) (text last : List ℕ) → text ≡ fault_text name at → last ≡ summary_text t → Takes a b (line text) → Takes b c (line last)
+    → Takes a c (faulty t name at).bytes
+fault_done a b c t name at text last e f k l =
     let Q : List ℕ → Type 0 = λ (x : List ℕ). Takes b c (line x) in
-    (Takes-then a b c (line fault_text) (line (summary_text no_totals)) t (subst Q e k), refl)
+    let S : List ℕ → Type 0 = λ (x : List ℕ). Takes a b (line x) in
+    Takes-then a b c (line (fault_text name at)) (line (summary_text t)) (subst S e k) (subst Q f l)
 
 -- ---- whole inputs
 
-pub output_book : (input : List ℕ) (fs : List Form) → forms_of input ≡ Some fs → output input ≡ answers sessions.first_session no_totals fs
+pub output_long : (bytes : List ℕ) → most_bytes < length bytes → output bytes ≡ faulty no_totals (codes "NotYet") most_bytes
 unfolding output
-output_book input fs e = ap answered e
-
-pub output_fault : (input : List ℕ) → forms_of input ≡ None → output input ≡ faulty
-unfolding output
-output_fault input e = ap answered e
-
-too_long : (bytes : List ℕ) → most_bytes < length bytes → forms_of bytes ≡ None
-unfolding forms_of
-too_long bytes l = ap (λ t. if t then option_and_then forms_of_tokens (tokens_of bytes) else None) (not_le (length bytes) l) where
+output_long bytes l =
+    ap (λ t. if t then answers (length bytes + 1) sessions.first_session no_totals 0 bytes else faulty no_totals (codes "NotYet") most_bytes) (not_le (length bytes) l) where
   not_le : (n : ℕ) → most_bytes < n → nat_le n most_bytes ≡ false
   not_le n h = grind (arith, nat_tests)
+
+pub output_short : (bytes : List ℕ) → length bytes ≤ most_bytes → output bytes ≡ answers (length bytes + 1) sessions.first_session no_totals 0 bytes
+unfolding output
+output_short bytes l =
+    ap (λ t. if t then answers (length bytes + 1) sessions.first_session no_totals 0 bytes else faulty no_totals (codes "NotYet") most_bytes) (le (length bytes) l) where
+  le : (n : ℕ) → n ≤ most_bytes → nat_le n most_bytes ≡ true
+  le n h = grind (arith, nat_tests)
 
 record Told (left : Option (List ℕ)) (bytes : List ℕ) : Type 0 where
   input : List ℕ
@@ -202,7 +137,7 @@ told_input (Some left) bytes h = go (nat_le (length bytes) most_bytes) refl wher
   go false e =
       let long = above (length bytes) e in
       let longer : most_bytes < length left = omega (arith, ap length h.whole, length-append bytes h.rest, long) in
-      record { input = left; told = refl; same = output_fault left (too_long left longer) ∙ sym (output_fault bytes (too_long bytes long)) }
+      record { input = left; told = refl; same = output_long left longer ∙ sym (output_long bytes long) }
 
 ends_plain : (old new : Option (List ℕ)) (out : Output) (status : Status) → Finishes old new out status → IsPlain status → Ends old new out status
 ends_plain old new out Done f p = (f.0, sym f.1)

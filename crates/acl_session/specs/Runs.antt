@@ -3,10 +3,10 @@ use Rattle.std.specs.Prelude.{◌≡◌, ℕ, ◌≤◌, ◌+◌, List, ◌++◌
 use Rattle.acl_edge.specs.Outside.{Takes, TakesPart}
 use Rattle.acl_base.specs.declared.status.Status.{Status}
 use Rattle.acl_base.specs.declared.status.Status.TheVariants.{Done, Errors, Words, Text, ReadFault, WriteFault, Memory}
-use Rattle.model_output.specs.Text.{most_bytes}
-use Rattle.model_output.specs.Output.{Output, Totals, output, before, one_if}
+use Rattle.model_text.specs.declared.TextFault.{TextFault}
+use Rattle.model_output.specs.Output.{Output, Totals, output, before, one_if, most_bytes, ended, faulty, cause_name}
 use Rattle.acl_session.specs.declared.totals.Totals as code
-use Rattle.acl_session.specs.declared.session.Answer.{Answer}
+use Rattle.acl_answers.specs.declared.Answer.{Answer}
 
 -- the source tells these bytes, or tells none
 abbrev pub Tells : Option (List ℕ) → List ℕ → Type 0
@@ -56,6 +56,11 @@ pub record Writing (old new : Option (List ℕ)) (left all : Output) : Type 0 wh
   pub part : List ℕ
   pub takes : Takes old new part
   pub whole : before part left ≡ all
+
+-- what is left of an output where a book has ended, or a text fault ends it
+abbrev pub end_output : Totals → Option TextFault → Output
+end_output t None = ended t
+end_output t (Some e) = faulty t (cause_name e.cause) e.offset
 
 -- the status of a run in which nothing failed
 abbrev pub IsPlain : Status → Type 0

@@ -1,18 +1,12 @@
 //! Running a whole book: its commands, and their lines.
 
 ghost use Rattle.std.specs.Prelude.{◌≡◌, ◌≤◌, IfOk, OnOk, OnErr, IsErrOf, codes};
-ghost use Rattle.std.specs.Option.{option_map};
 ghost use Rattle.acl_edge.specs.Outside.{Takes, TakesPart, HasRisen};
-ghost use Rattle.model_output.specs.Text as text;
 ghost use Rattle.model_output.specs.Output as output;
-ghost use Rattle.model_output.specs.Sessions as sessions;
-ghost use Rattle.acl_session.specs.Views.{form_list, form_views};
-ghost use Rattle.acl_session.specs.Runs.{Finishes, IsPlain};
+ghost use Rattle.acl_session.specs.Runs.{Finishes, IsPlain, totals_view, end_output};
 
-use crate::forms::{Form, forms_of};
+use crate::books::run_forms;
 use crate::reading::MOST_BYTES;
-use crate::session::Session;
-use crate::tokens::tokens_of;
 use crate::totals::Totals;
 use acl_base::Status;
 use acl_edge::{Failed, Sink, write_all};
@@ -56,7 +50,7 @@ impl From<Failed> for Unwritten {
 }
 
 /// Writes a line, and the byte that ends it.
-fn write_line<K: Sink>(sink: &mut K, mut line: Vec<u8>) -> Result<(), Unwritten>
+pub fn write_line<K: Sink>(sink: &mut K, mut line: Vec<u8>) -> Result<(), Unwritten>
     ensures ok { OnOk result (Takes (K.written sink.old) (K.written sink.new) (output.line line.items)) }
     ensures part { OnErr result (TakesPart (K.written sink.old) (K.written sink.new) (output.line line.items)) }
     ensures fault { IsErrOf result Unwritten.Fault → HasRisen (K.faults sink.old) (K.faults sink.new) }
@@ -67,38 +61,48 @@ fn write_line<K: Sink>(sink: &mut K, mut line: Vec<u8>) -> Result<(), Unwritten>
     Ok(())
 }
 
-/// The forms of an input, where it is a book.
-#[tactic(auto, unfolding(model_output::specs::Text::forms_of))]
-fn forms_in(alloc: Global, input: &[u8]) -> Result<Option<Vec<Form>>, AllocError>
-    ensures { IfOk result (λ forms. text.forms_of input.now ≡ option_map form_list forms) }
+/// The name of the cause of a text fault.
+fn cause_name(cause: TextCause) -> &'static [u8]
+    ensures { result.now ≡ output.cause_name cause }
 {
-    if input.len() > MOST_BYTES {
-        return Ok(None);
-    }
-    match tokens_of(alloc, input)? {
-        Some(tokens) => {
-            let forms = forms_of(alloc, tokens)?;
-            Ok(forms)
-        }
-        None => Ok(None),
+    match cause {
+        TextCause::StrayClose => b"StrayClose",
+        TextCause::Unfinished => b"Unfinished",
+        TextCause::BadToken => b"BadToken",
+        TextCause::BadByte => b"BadByte",
+        TextCause::IntegerTooWide => b"IntegerTooWide",
+        TextCause::TooDeep => b"TooDeep",
+        TextCause::FormTooLong => b"FormTooLong",
+        TextCause::InputTooLong => b"InputTooLong",
+        TextCause::BadDot => b"BadDot",
+        TextCause::CommaOutside => b"CommaOutside",
+        TextCause::UnknownPackage => b"UnknownPackage",
+        TextCause::TooManySymbols => b"TooManySymbols",
+        TextCause::TooLarge => b"TooLarge",
+        TextCause::Memory => b"Memory",
     }
 }
 
-/// Runs the commands in turn, and writes the line of each before the next, and then the summary.
-fn run_book<K: Sink>(alloc: Global, forms: &[Form], sink: &mut K) -> Result<Status, Unwritten>
-    ensures ok { IfOk result (Finishes (K.written sink.old) (K.written sink.new) (output.answers sessions.first_session output.no_totals (form_views forms.now))) }
-    ensures part { OnErr result (TakesPart (K.written sink.old) (K.written sink.new) (output.answers sessions.first_session output.no_totals (form_views forms.now)).bytes) }
+/// The line of a text fault, without the byte that ends it.
+fn fault_line(alloc: Global, name: &[u8], offset: u64) -> Result<Vec<u8>, AllocError>
+    ensures { IfOk result (λ line. line.items ≡ output.fault_text name.now offset) }
+{
+    let digits = offset.to_string(alloc)?;
+    let mut line = Vec::from_slice(alloc, b"Text fault: ")?;
+    line.extend_from_slice(name)?;
+    line.extend_from_slice(b" at ")?;
+    line.extend_from_slice(digits.as_bytes())?;
+    Ok(line)
+}
+
+/// Writes the summary of a book that has ended.
+fn end_book<K: Sink>(alloc: Global, totals: &Totals, sink: &mut K) -> Result<Status, Unwritten>
+    ensures ok { IfOk result (Finishes (K.written sink.old) (K.written sink.new) (output.ended (totals_view totals.now))) }
+    ensures part { OnErr result (TakesPart (K.written sink.old) (K.written sink.new) (output.ended (totals_view totals.now)).bytes) }
     ensures fault { IsErrOf result Unwritten.Fault → HasRisen (K.faults sink.old) (K.faults sink.new) }
     ensures counts { K.faults sink.old ≤ K.faults sink.new }
     ensures plain { IfOk result IsPlain }
 {
-    let mut session = Session::new();
-    let mut totals = Totals::new();
-    for form in forms {
-        let answer = session.command(alloc, form)?;
-        totals.count(&answer);
-        write_line(sink, answer.line)?;
-    }
     let summary = totals.summary(alloc)?;
     write_line(sink, summary)?;
     if totals.errors == 0 {
@@ -108,23 +112,48 @@ fn run_book<K: Sink>(alloc: Global, forms: &[Form], sink: &mut K) -> Result<Stat
     }
 }
 
-/// Writes the lines of an input that is no book.
-fn write_fault<K: Sink>(alloc: Global, sink: &mut K) -> Result<Status, Unwritten>
-    ensures ok { IfOk result (Finishes (K.written sink.old) (K.written sink.new) output.faulty) }
-    ensures part { OnErr result (TakesPart (K.written sink.old) (K.written sink.new) output.faulty.bytes) }
+/// Writes the line of a text fault, and the summary.
+fn end_at_fault<K: Sink>(
+    alloc: Global,
+    name: &[u8],
+    offset: u64,
+    totals: &Totals,
+    sink: &mut K,
+) -> Result<Status, Unwritten>
+    ensures ok { IfOk result (Finishes (K.written sink.old) (K.written sink.new) (output.faulty (totals_view totals.now) name.now offset)) }
+    ensures part { OnErr result (TakesPart (K.written sink.old) (K.written sink.new) (output.faulty (totals_view totals.now) name.now offset).bytes) }
     ensures fault { IsErrOf result Unwritten.Fault → HasRisen (K.faults sink.old) (K.faults sink.new) }
     ensures counts { K.faults sink.old ≤ K.faults sink.new }
     ensures plain { IfOk result IsPlain }
 {
-    let line = Vec::from_slice(alloc, b"Text fault: NotYet at 0")?;
+    let line = fault_line(alloc, name, offset)?;
     write_line(sink, line)?;
-    let summary = Totals::new().summary(alloc)?;
+    let summary = totals.summary(alloc)?;
     write_line(sink, summary)?;
     Ok(Status::Text)
 }
 
+/// Writes what ends a book.
+fn end<K: Sink>(
+    alloc: Global,
+    end: Option<TextFault>,
+    totals: &Totals,
+    sink: &mut K,
+) -> Result<Status, Unwritten>
+    ensures ok { IfOk result (Finishes (K.written sink.old) (K.written sink.new) (end_output (totals_view totals.now) end)) }
+    ensures part { OnErr result (TakesPart (K.written sink.old) (K.written sink.new) (end_output (totals_view totals.now) end).bytes) }
+    ensures fault { IsErrOf result Unwritten.Fault → HasRisen (K.faults sink.old) (K.faults sink.new) }
+    ensures counts { K.faults sink.old ≤ K.faults sink.new }
+    ensures plain { IfOk result IsPlain }
+{
+    match end {
+        None => end_book(alloc, totals, sink),
+        Some(fault) => end_at_fault(alloc, cause_name(fault.cause), fault.offset, totals, sink),
+    }
+}
+
 /// Runs an input, and writes its output.
-#[tactic(auto, using(crate::proofs::OutputLemmas::output_book, crate::proofs::OutputLemmas::output_fault))]
+#[tactic(auto, using(crate::proofs::OutputLemmas::output_short, crate::proofs::OutputLemmas::output_long))]
 pub fn answer<K: Sink>(alloc: Global, input: &[u8], sink: &mut K) -> Result<Status, Unwritten>
     ensures ok { IfOk result (Finishes (K.written sink.old) (K.written sink.new) (output.output input.now)) }
     ensures part { OnErr result (TakesPart (K.written sink.old) (K.written sink.new) (output.output input.now).bytes) }
@@ -132,8 +161,10 @@ pub fn answer<K: Sink>(alloc: Global, input: &[u8], sink: &mut K) -> Result<Stat
     ensures counts { K.faults sink.old ≤ K.faults sink.new }
     ensures plain { IfOk result IsPlain }
 {
-    match forms_in(alloc, input)? {
-        Some(forms) => run_book(alloc, forms.as_slice(), sink),
-        None => write_fault(alloc, sink),
+    let mut totals = Totals::new();
+    if input.len() > MOST_BYTES {
+        return end_at_fault(alloc, b"NotYet", MOST_BYTES as u64, &totals, sink);
     }
+    let ended = run_forms(alloc, input, &mut totals, sink)?;
+    end(alloc, ended, &totals, sink)
 }

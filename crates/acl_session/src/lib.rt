@@ -2,15 +2,9 @@
 #![tactic(auto)]
 
 mod answering;
-mod atoms;
-mod commands;
-mod definition;
-mod forms;
+mod books;
 mod reading;
 mod running;
-mod session;
-mod stobj;
-mod tokens;
 mod totals;
 
 pub use running::run;

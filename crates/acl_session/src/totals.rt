@@ -4,7 +4,7 @@ ghost use Rattle.std.specs.Prelude.{◌≡◌, ◌<◌, ◌+◌, ◌^◌, IfOk};
 ghost use Rattle.model_output.specs.Output as output;
 ghost use Rattle.acl_session.specs.Runs.{totals_view, counted_by};
 
-use crate::session::Answer;
+use acl_answers::Answer;
 use std::alloc::{AllocError, Global};
 
 /// How many commands, calls and errors there were.

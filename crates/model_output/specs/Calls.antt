@@ -1,21 +1,14 @@
 -- Calls of primitives on constants.
-use Rattle.std.specs.Prelude.{ℕ, ◌==◌, List, [], ◌∷◌, ◌++◌, length, map, codes, Option, Some, None, position, unwrap_or, slice_get, false, if◌then◌else◌}
+use Rattle.std.specs.Prelude.{ℕ, ◌==◌, List, [], ◌∷◌, ◌++◌, length, map, codes, Option, Some, None, unwrap_or, false, if◌then◌else◌}
 use Rattle.std.specs.Option.{option_map}
 use Rattle.model_objects.specs.Object.{Object, named}
-use Rattle.model_symbols.specs.Symbols.{QualifiedName, same_name, number_of, form_of}
+use Rattle.model_symbols.specs.Symbols.{QualifiedName, number_of, form_of}
 use Rattle.model_text.specs.Token.{Form}
-use Rattle.model_prims.specs.Rows.{Row, table, no_row, prim_of}
+use Rattle.model_prims.specs.Rows.{prim_of, arity_of, row_called}
 use Rattle.model_prims.specs.Applied.{Applied, Gives, Stops, Stop, Guard, Range, Large, Symbols, applied}
 use Rattle.model_output.specs.Commands.{Actual, Literal, Quoted, Variable, Nested}
 use Rattle.model_output.specs.Sessions.{Session, knowing, Answered}
 use Rattle.model_output.specs.Lines.{printed, printed_symbol, refused, NotYet, stopped, violation_text}
-
--- the row of the primitive of this name
-abbrev pub row_of : QualifiedName → Option ℕ
-row_of f = position (λ (r : Row). same_name f r.symbol) table
-
-abbrev pub arity_of : ℕ → ℕ
-arity_of row = (unwrap_or (slice_get table row) no_row).arity
 
 -- the values of actuals that are constants
 abbrev pub with_constant : Form → Option (List Form) → Option (List Form)
@@ -62,4 +55,4 @@ row_call s f actuals None = refused s NotYet
 row_call s f actuals (Some row) = on_constants s f row (constants actuals)
 
 abbrev pub primitive_call : Session → QualifiedName → List Actual → Answered
-primitive_call s f actuals = row_call s f actuals (row_of f)
+primitive_call s f actuals = row_call s f actuals (row_called f)

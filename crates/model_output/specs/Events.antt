@@ -1,5 +1,5 @@
 -- The events that are known: the definition of an object, and the choice of a package.
-use Rattle.std.specs.Prelude.{ℕ, List, [], ◌∷◌, ◌++◌, length, map, Bool, ◌&&◌, ◌||◌, not, nat_le, ◌==◌, codes, Option, Some, None, if◌then◌else◌, true, false}
+use Rattle.std.specs.Prelude.{ℕ, ◌-◌, unwrap_or, slice_get, List, [], ◌∷◌, ◌++◌, length, map, Bool, ◌&&◌, ◌||◌, not, nat_le, ◌==◌, codes, Option, Some, None, if◌then◌else◌, true, false}
 use Rattle.std.specs.Str.{bytes_eq}
 use Rattle.model_objects.specs.Object.{Text}
 use Rattle.model_symbols.specs.Symbols.{QualifiedName, Package, symbol_in, package_number, is_known, interned, is_one_too_many}
@@ -12,15 +12,12 @@ use Rattle.model_output.specs.Lines.{printed, printed_symbol, refused, NotYet, B
 
 -- ---- names
 
--- at least three bytes that begin and end with `*`
-abbrev pub ends_with_star : List ℕ → Bool
-ends_with_star [] = false
-ends_with_star (b ∷ []) = b == 42
-ends_with_star (b ∷ c ∷ bs) = ends_with_star (c ∷ bs)
+abbrev pub byte_at : List ℕ → ℕ → ℕ
+byte_at bytes n = unwrap_or (slice_get bytes n) 0
 
+-- at least three bytes that begin and end with `*`
 abbrev pub has_constant_shape : List ℕ → Bool
-has_constant_shape [] = false
-has_constant_shape (b ∷ bs) = (b == 42) && (nat_le 2 (length bs) && ends_with_star bs)
+has_constant_shape name = nat_le 3 (length name) && ((byte_at name 0 == 42) && (byte_at name (length name - 1) == 42))
 
 -- a symbol of a package whose symbols nobody may define
 abbrev pub is_of_closed_package : QualifiedName → Bool
