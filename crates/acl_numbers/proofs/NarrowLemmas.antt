@@ -5,7 +5,7 @@ use Rattle.std.proofs.lemmas.Bool.Decides.{nat_tests}
 use Rattle.std.proofs.lemmas.Int.{to_z-of_z}
 use Rattle.std.specs.Option.{SomeIff}
 use Rattle.std.specs.Int.{w64}
-use Rattle.model_objects.specs.Object.{Object, Integer}
+use Rattle.model_objects.specs.Object.{Integer}
 use Rattle.model_symbols.specs.Symbols.{QualifiedName, Table}
 use Rattle.model_prims.specs.Kinds.{by_number}
 use Rattle.model_prims.specs.Numbers.{in_range}

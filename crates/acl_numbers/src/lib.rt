@@ -11,6 +11,6 @@ mod stops;
 mod tests;
 
 pub use guards::{are_integers, arithmetic_guard};
-pub use kinds::{below, fix, is_integer, is_natural, is_positive, is_zero, natural};
+pub use kinds::{below, is_integer, is_natural, is_positive, is_zero, natural};
 pub use numbers::{computed, number};
 pub use stops::{PrimStop, answer};

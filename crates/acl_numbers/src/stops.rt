@@ -5,7 +5,7 @@ ghost use Rattle.acl_numbers.specs.Answers.{answer_of};
 
 use acl_base::Word;
 use acl_heap::HeapFault;
-use std::alloc::{AllocError, AllocFailed};
+use std::alloc::AllocError;
 
 /// Why a call of a primitive stops.
 #[derive(Clone, Copy, Debug, PartialEq, Eq)]

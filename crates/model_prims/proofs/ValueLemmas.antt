@@ -10,7 +10,7 @@ use Rattle.model_prims.specs.Numbers.{fix, natural_of, in_range, power_in_range,
 use Rattle.model_prims.specs.Lists.{car, cdr, element, padded, updated, member, is_member, assoc, union, appended, revappended}
 use Rattle.model_prims.specs.Guards.{guard}
 use Rattle.model_prims.specs.Values.{Wanted, Old, Number, Made, Power, Shift, Update, Interned, wanted, recognized, related, computed, without_sign, listed, named_by, name_of, interned_beside}
-use Rattle.model_prims.specs.Applied.{Applied, Stop, Large, Gives, Stops, number_or, updated_by, number_then, beside, bounded, guarded, applied_to}
+use Rattle.model_prims.specs.Applied.{Applied, Large, Gives, Stops, number_or, updated_by, number_then, beside, bounded, guarded, applied_to}
 use Rattle.model_prims.specs.Applied.{Symbols as NoRoom}
 use Rattle.model_prims.specs.Laws.{GivesValues}
 use Rattle.model_prims.proofs.AtOnce.{is_at_once}
