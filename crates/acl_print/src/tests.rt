@@ -32,51 +32,179 @@ fn prints_symbol(
 }
 
 #[test]
-fn names_stand_plainly_or_between_bars(rt: HostRuntime) -> Result<(), Fail> {
+fn names_stand_plainly(rt: HostRuntime) -> Result<(), Fail> {
     let mut syms = Symbols::new(rt.alloc())?;
-    let table: [(&[u8], &[u8]); 17] = [
-        (b"ABC-9", b"ABC-9"),
-        (b"!$%&*+-./<=>?@[]^_{}~", b"!$%&*+-./<=>?@[]^_{}~"),
-        (b"a", b"|a|"),
-        (b"", b"||"),
-        (b"A|B", b"|A\\|B|"),
-        (b"A\\B", b"|A\\\\B|"),
-        (b"A B", b"|A B|"),
-        (b"A:B", b"|A:B|"),
-        (b"#A", b"|#A|"),
-        (b"12", b"|12|"),
-        (b"-12.", b"|-12.|"),
-        (b"+1/2", b"|+1/2|"),
-        (b"1.5E-3", b"|1.5E-3|"),
-        (b"1E", b"1E"),
-        (b"...", b"|...|"),
-        (b".A", b".A"),
-        (b"+", b"+"),
-    ];
-    for (name, want) in table {
-        assert!(rt; prints_symbol(rt.alloc(), &mut syms, b"ACL2", b"ACL2", name, want)?);
-    }
+    assert!(rt; prints_symbol(rt.alloc(), &mut syms, b"ACL2", b"ACL2", b"ABC-9", b"ABC-9")?);
+    assert!(rt;
+        prints_symbol(
+            rt.alloc(),
+            &mut syms,
+            b"ACL2",
+            b"ACL2",
+            b"!$%&*+-./<=>?@[]^_{}~",
+            b"!$%&*+-./<=>?@[]^_{}~"
+        )?
+    );
+    assert!(rt; prints_symbol(rt.alloc(), &mut syms, b"ACL2", b"ACL2", b"1E", b"1E")?);
+    assert!(rt; prints_symbol(rt.alloc(), &mut syms, b"ACL2", b"ACL2", b".A", b".A")?);
+    assert!(rt; prints_symbol(rt.alloc(), &mut syms, b"ACL2", b"ACL2", b"+", b"+")?);
     Ok(())
 }
 
 #[test]
-fn symbols_say_their_package_where_they_must(rt: HostRuntime) -> Result<(), Fail> {
+fn names_stand_between_bars(rt: HostRuntime) -> Result<(), Fail> {
+    let mut syms = Symbols::new(rt.alloc())?;
+    assert!(rt; prints_symbol(rt.alloc(), &mut syms, b"ACL2", b"ACL2", b"a", b"|a|")?);
+    assert!(rt; prints_symbol(rt.alloc(), &mut syms, b"ACL2", b"ACL2", b"", b"||")?);
+    assert!(rt; prints_symbol(rt.alloc(), &mut syms, b"ACL2", b"ACL2", b"A B", b"|A B|")?);
+    assert!(rt; prints_symbol(rt.alloc(), &mut syms, b"ACL2", b"ACL2", b"A:B", b"|A:B|")?);
+    assert!(rt; prints_symbol(rt.alloc(), &mut syms, b"ACL2", b"ACL2", b"#A", b"|#A|")?);
+    Ok(())
+}
+
+#[test]
+fn bars_and_backslashes_have_a_backslash(rt: HostRuntime) -> Result<(), Fail> {
+    let mut syms = Symbols::new(rt.alloc())?;
+    assert!(rt; prints_symbol(rt.alloc(), &mut syms, b"ACL2", b"ACL2", b"A|B", b"|A\\|B|")?);
+    assert!(rt;
+        prints_symbol(
+            rt.alloc(),
+            &mut syms,
+            b"ACL2",
+            b"ACL2",
+            b"A\\B",
+            b"|A\\\\B|"
+        )?
+    );
+    Ok(())
+}
+
+#[test]
+fn names_like_numbers_stand_between_bars(rt: HostRuntime) -> Result<(), Fail> {
+    let mut syms = Symbols::new(rt.alloc())?;
+    assert!(rt; prints_symbol(rt.alloc(), &mut syms, b"ACL2", b"ACL2", b"12", b"|12|")?);
+    assert!(rt; prints_symbol(rt.alloc(), &mut syms, b"ACL2", b"ACL2", b"-12.", b"|-12.|")?);
+    assert!(rt; prints_symbol(rt.alloc(), &mut syms, b"ACL2", b"ACL2", b"+1/2", b"|+1/2|")?);
+    assert!(rt;
+        prints_symbol(
+            rt.alloc(),
+            &mut syms,
+            b"ACL2",
+            b"ACL2",
+            b"1.5E-3",
+            b"|1.5E-3|"
+        )?
+    );
+    assert!(rt; prints_symbol(rt.alloc(), &mut syms, b"ACL2", b"ACL2", b"...", b"|...|")?);
+    Ok(())
+}
+
+#[test]
+fn keywords_begin_with_a_colon(rt: HostRuntime) -> Result<(), Fail> {
+    let mut syms = Symbols::new(rt.alloc())?;
+    assert!(rt;
+        prints_symbol(
+            rt.alloc(),
+            &mut syms,
+            b"ACL2",
+            b"KEYWORD",
+            b"TEST",
+            b":TEST"
+        )?
+    );
+    assert!(rt;
+        prints_symbol(
+            rt.alloc(),
+            &mut syms,
+            b"ACL2",
+            b"KEYWORD",
+            b"test",
+            b":|test|"
+        )?
+    );
+    assert!(rt;
+        prints_symbol(
+            rt.alloc(),
+            &mut syms,
+            b"KEYWORD",
+            b"KEYWORD",
+            b"TEST",
+            b":TEST"
+        )?
+    );
+    Ok(())
+}
+
+#[test]
+fn symbols_of_the_current_package_stand_alone(rt: HostRuntime) -> Result<(), Fail> {
+    let mut syms = Symbols::new(rt.alloc())?;
+    assert!(rt;
+        prints_symbol(
+            rt.alloc(),
+            &mut syms,
+            b"ACL2",
+            b"COMMON-LISP",
+            b"CAR",
+            b"CAR"
+        )?
+    );
+    assert!(rt;
+        prints_symbol(
+            rt.alloc(),
+            &mut syms,
+            b"COMMON-LISP",
+            b"ACL2",
+            b"CAR",
+            b"CAR"
+        )?
+    );
+    Ok(())
+}
+
+#[test]
+fn other_symbols_say_their_package(rt: HostRuntime) -> Result<(), Fail> {
     let mut syms = Symbols::new(rt.alloc())?;
     syms.add_package(b"my pkg", &[])?;
-    let table: [(&[u8], &[u8], &[u8], &[u8]); 9] = [
-        (b"ACL2", b"KEYWORD", b"TEST", b":TEST"),
-        (b"ACL2", b"KEYWORD", b"test", b":|test|"),
-        (b"KEYWORD", b"KEYWORD", b"TEST", b":TEST"),
-        (b"ACL2", b"COMMON-LISP", b"CAR", b"CAR"),
-        (b"ACL2", b"COMMON-LISP", b"FOO", b"COMMON-LISP::FOO"),
-        (b"COMMON-LISP", b"ACL2", b"CAR", b"CAR"),
-        (b"COMMON-LISP", b"ACL2", b"FOO", b"ACL2::FOO"),
-        (b"my pkg", b"COMMON-LISP", b"NIL", b"COMMON-LISP::NIL"),
-        (b"ACL2", b"my pkg", b"x", b"|my pkg|::|x|"),
-    ];
-    for (package, home, name, want) in table {
-        assert!(rt; prints_symbol(rt.alloc(), &mut syms, package, home, name, want)?);
-    }
+    assert!(rt;
+        prints_symbol(
+            rt.alloc(),
+            &mut syms,
+            b"ACL2",
+            b"COMMON-LISP",
+            b"FOO",
+            b"COMMON-LISP::FOO"
+        )?
+    );
+    assert!(rt;
+        prints_symbol(
+            rt.alloc(),
+            &mut syms,
+            b"COMMON-LISP",
+            b"ACL2",
+            b"FOO",
+            b"ACL2::FOO"
+        )?
+    );
+    assert!(rt;
+        prints_symbol(
+            rt.alloc(),
+            &mut syms,
+            b"my pkg",
+            b"COMMON-LISP",
+            b"NIL",
+            b"COMMON-LISP::NIL"
+        )?
+    );
+    assert!(rt;
+        prints_symbol(
+            rt.alloc(),
+            &mut syms,
+            b"ACL2",
+            b"my pkg",
+            b"x",
+            b"|my pkg|::|x|"
+        )?
+    );
     Ok(())
 }
 
