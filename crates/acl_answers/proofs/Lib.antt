@@ -4,3 +4,6 @@ pub mod NameLemmas
 pub mod NewNameLemmas
 pub mod EventLemmas
 pub mod AllLemmas
+pub mod UseLemmas
+pub mod SessionLemmas
+pub mod PrimitiveLemmas

@@ -1,5 +1,5 @@
 -- Names that become known, one after another.
-use Rattle.std.specs.Prelude.{◌≡◌, ℕ, ◌<◌, List, [], ◌∷◌, ◌++◌, length, map, Bool, true, false, not, ◌&&◌, Some, None, is_some, nat_lt, if◌then◌else◌, refl}
+use Rattle.std.specs.Prelude.{◌≡◌, ℕ, ◌<◌, codes, List, [], ◌∷◌, ◌++◌, length, map, Bool, true, false, not, ◌&&◌, Some, None, is_some, nat_lt, if◌then◌else◌, refl}
 use Rattle.std.proofs.Common.{sym, ap, ◌∙◌, subst, arith}
 use Rattle.std.specs.List.{All}
 use Rattle.std.proofs.lemmas.List.{append_assoc, append-nil}
@@ -9,7 +9,7 @@ use Rattle.model_symbols.specs.Tables.{symbol_under, with_symbol, IsTable}
 use Rattle.model_symbols.proofs.NameLemmas.{symbol_at-is, symbol-at, number-known, is_known-is, interned-known}
 use Rattle.model_symbols.proofs.TableLemmas.{Extends-self, Extends-then}
 use Rattle.model_prims.specs.Applied.{package_called, package_or}
-use Rattle.model_output.specs.Events.{Room, beside, with_names}
+use Rattle.model_output.specs.Events.{Room, beside, with_names, recognizer, creator, updater, field_names}
 use Rattle.acl_syms.specs.Answers.{Interns}
 use Rattle.acl_forms.specs.Growth.{symbol_later}
 use Rattle.acl_base.specs.declared.SymId.{SymId}
@@ -93,3 +93,65 @@ full_then a b c xs ys is p q = record {
 
 pub full_more : (a b : Table) (xs ys : List QualifiedName) → IsFull a b xs → IsFull a b (xs ++ ys)
 full_more a b xs ys q = record { grows = q.grows; packages = q.packages; room = λ rest. ap (with_names a.symbols) (append_assoc xs ys rest) ∙ q.room (ys ++ rest) }
+
+-- ---- the functions of a field, and of an object
+
+-- the name of a symbol beside which another was made
+same_later : (a b : Table) → Extends a b → b.packages ≡ a.packages → (s : SymId) → IsKnown a s → (name : List ℕ) → beside b.packages (name_of b s) name ≡ beside a.packages (name_of a s) name
+same_later a b g p s k name = rw (p, symbol_later g s.0 k) refl
+
+pub field_full : (t t' : Table) (f : QualifiedName) (name : List ℕ) → name ≡ f.name ++ codes "P" → IsFull t t' (beside t.packages f name ∷ []) → IsFull t t' (field_names t.packages f)
+field_full t t' f name e q =
+    full_more t t' (recognizer t.packages f ∷ []) (f ∷ updater t.packages f ∷ []) (subst (λ (n : List ℕ). IsFull t t' (beside t.packages f n ∷ [])) e q)
+
+-- the recognizer and the field itself
+field_made : (a b : Table) (f r : SymId) (name : List ℕ) → IsKnown a f → IsTable b → name ≡ (name_of a f).name ++ codes "P" → Makes a b (beside a.packages (name_of a f) name ∷ []) (r ∷ [])
+    → Makes a b (recognizer a.packages (name_of a f) ∷ name_of a f ∷ []) (r ∷ f ∷ [])
+field_made a b f r name k i e m =
+    let P : List ℕ → Type 0 = λ n. Makes a b (beside a.packages (name_of a f) n ∷ []) (r ∷ []) in
+    let known : Makes b b (name_of a f ∷ []) (f ∷ []) =
+    subst (λ (q : QualifiedName). Makes b b (q ∷ []) (f ∷ [])) (symbol_later m.grows f.0 k) (made_known b i f (omega (arith, m.grows.longer, k))) in
+    made_then a b b (recognizer a.packages (name_of a f) ∷ []) (name_of a f ∷ []) (r ∷ []) (f ∷ []) (subst P e m) known
+
+pub updater_full : (a b c : Table) (f r : SymId) (name other : List ℕ) → IsKnown a f → IsTable b → name ≡ (name_of a f).name ++ codes "P" → other ≡ codes "UPDATE-" ++ (name_of a f).name
+    → Makes a b (beside a.packages (name_of a f) name ∷ []) (r ∷ []) → IsFull b c (beside b.packages (name_of b f) other ∷ []) → IsFull a c (field_names a.packages (name_of a f))
+updater_full a b c f r name other k i e g m q =
+    let here = same_later a b m.grows m.packages f k other ∙ ap (beside a.packages (name_of a f)) g in
+    full_then a b c (recognizer a.packages (name_of a f) ∷ name_of a f ∷ []) (updater a.packages (name_of a f) ∷ []) (r ∷ f ∷ []) (field_made a b f r name k i e m)
+    (subst (λ (s : QualifiedName). IsFull b c (s ∷ [])) here q)
+
+pub field_all : (a b c : Table) (f r u : SymId) (name other : List ℕ) → IsKnown a f → IsTable b → name ≡ (name_of a f).name ++ codes "P" → other ≡ codes "UPDATE-" ++ (name_of a f).name
+    → Makes a b (beside a.packages (name_of a f) name ∷ []) (r ∷ []) → Makes b c (beside b.packages (name_of b f) other ∷ []) (u ∷ []) → Makes a c (field_names a.packages (name_of a f)) (r ∷ f ∷ u ∷ [])
+field_all a b c f r u name other k i e g m q =
+    let here = same_later a b m.grows m.packages f k other ∙ ap (beside a.packages (name_of a f)) g in
+    made_then a b c (recognizer a.packages (name_of a f) ∷ name_of a f ∷ []) (updater a.packages (name_of a f) ∷ []) (r ∷ f ∷ []) (u ∷ []) (field_made a b f r name k i e m)
+    (subst (λ (s : QualifiedName). Makes b c (s ∷ []) (u ∷ [])) here q)
+
+-- an object's name and its recognizer
+object_made : (a b : Table) (s r : SymId) (name : List ℕ) → IsKnown a s → IsTable a → name ≡ (name_of a s).name ++ codes "P" → Makes a b (beside a.packages (name_of a s) name ∷ []) (r ∷ [])
+    → Makes a b (name_of a s ∷ recognizer a.packages (name_of a s) ∷ []) (s ∷ r ∷ [])
+object_made a b s r name k i e m =
+    let P : List ℕ → Type 0 = λ n. Makes a b (beside a.packages (name_of a s) n ∷ []) (r ∷ []) in
+    made_then a a b (name_of a s ∷ []) (recognizer a.packages (name_of a s) ∷ []) (s ∷ []) (r ∷ []) (made_known a i s k) (subst P e m)
+
+pub object_full : (a b : Table) (s : SymId) (name : List ℕ) → IsKnown a s → IsTable a → name ≡ (name_of a s).name ++ codes "P" → IsFull a b (beside a.packages (name_of a s) name ∷ [])
+    → IsFull a b (name_of a s ∷ recognizer a.packages (name_of a s) ∷ creator a.packages (name_of a s) ∷ [])
+object_full a b s name k i e q =
+    let P : List ℕ → Type 0 = λ n. IsFull a b (beside a.packages (name_of a s) n ∷ []) in
+    full_more a b (name_of a s ∷ recognizer a.packages (name_of a s) ∷ []) (creator a.packages (name_of a s) ∷ [])
+    (full_then a a b (name_of a s ∷ []) (recognizer a.packages (name_of a s) ∷ []) (s ∷ []) (made_known a i s k) (subst P e q))
+
+pub creator_full : (a b c : Table) (s r : SymId) (name other : List ℕ) → IsKnown a s → IsTable a → name ≡ (name_of a s).name ++ codes "P" → other ≡ codes "CREATE-" ++ (name_of a s).name
+    → Makes a b (beside a.packages (name_of a s) name ∷ []) (r ∷ []) → IsFull b c (beside b.packages (name_of b s) other ∷ []) → IsFull a c (name_of a s ∷ recognizer a.packages (name_of a s) ∷ creator a.packages (name_of a s) ∷ [])
+creator_full a b c s r name other k i e g m q =
+    let here = same_later a b m.grows m.packages s k other ∙ ap (beside a.packages (name_of a s)) g in
+    full_then a b c (name_of a s ∷ recognizer a.packages (name_of a s) ∷ []) (creator a.packages (name_of a s) ∷ []) (s ∷ r ∷ []) (object_made a b s r name k i e m)
+    (subst (λ (q : QualifiedName). IsFull b c (q ∷ [])) here q)
+
+pub object_all : (a b c : Table) (s r u : SymId) (name other : List ℕ) → IsKnown a s → IsTable a → name ≡ (name_of a s).name ++ codes "P" → other ≡ codes "CREATE-" ++ (name_of a s).name
+    → Makes a b (beside a.packages (name_of a s) name ∷ []) (r ∷ []) → Makes b c (beside b.packages (name_of b s) other ∷ []) (u ∷ [])
+    → Makes a c (name_of a s ∷ recognizer a.packages (name_of a s) ∷ creator a.packages (name_of a s) ∷ []) (s ∷ r ∷ u ∷ [])
+object_all a b c s r u name other k i e g m q =
+    let here = same_later a b m.grows m.packages s k other ∙ ap (beside a.packages (name_of a s)) g in
+    made_then a b c (name_of a s ∷ recognizer a.packages (name_of a s) ∷ []) (creator a.packages (name_of a s) ∷ []) (s ∷ r ∷ []) (u ∷ []) (object_made a b s r name k i e m)
+    (subst (λ (q : QualifiedName). Makes b c (q ∷ []) (u ∷ [])) here q)

@@ -34,14 +34,14 @@ views_both : (t : Table) (xs ys : List NewField) → names_of (field_views t (xs
 views_both t [] ys = refl
 views_both t (x ∷ xs) ys = ap (λ (l : List QualifiedName). name_of t x.name ∷ l) (views_both t xs ys)
 
-all_both : (t : Table) (s : SymId) (xs ys : List NewField) → all_names t s (xs ++ ys) ≡ all_names t s xs ++ fields_names t.packages (names_of (field_views t ys))
-all_both t s xs ys =
+names_of_both : (t : Table) (s : SymId) (xs ys : List NewField) → all_names t s (xs ++ ys) ≡ all_names t s xs ++ fields_names t.packages (names_of (field_views t ys))
+names_of_both t s xs ys =
     ap (λ (l : List QualifiedName). new_names t.packages (name_of t s) l) (views_both t xs ys)
     ∙ ap (λ (l : List QualifiedName). name_of t s ∷ recognizer t.packages (name_of t s) ∷ creator t.packages (name_of t s) ∷ l)
     (fields_names_both t.packages (names_of (field_views t xs)) (names_of (field_views t ys)))
 
-field_known : (t : Table) (fields : List NewField) (i : ℕ) (f : NewField) → wanted.AreKnownFields t fields → i < length fields → f ≡ get_or fields i f → IsKnown t f.name
-field_known t fields i f a l e = subst (λ (h : NewField). IsKnown t h.name) (sym e) (a i f l)
+field_known : (t : Table) (fields : List NewField) (i : ℕ) (f d : NewField) → wanted.AreKnownFields t fields → i < length fields → f ≡ get_or fields i d → IsKnown t f.name
+field_known t fields i f d a l e = subst (λ (h : NewField). IsKnown t h.name) (sym e) (a i d l)
 
 -- the names of a field, in the table that has grown
 names_then : (t0 t : Table) → Extends t0 t → t.packages ≡ t0.packages → (f : SymId) → IsKnown t0 f → field_names t.packages (name_of t f) ≡ field_names t0.packages (name_of t0 f)
@@ -51,45 +51,45 @@ three_pushed : (ids : List SymId) (a b c : SymId) → ((ids ++ a ∷ []) ++ b �
 three_pushed ids a b c = append_assoc (ids ++ a ∷ []) (b ∷ []) (c ∷ []) ∙ append_assoc ids (a ∷ []) (b ∷ c ∷ [])
 
 -- the names of one field more
-pub names_more : (t0 t t' : Table) (s : SymId) (fields : List NewField) (i : ℕ) (f : NewField) (ids more : List SymId) (r u : SymId) → wanted.AreKnownFields t0 fields → i < length fields → f ≡ get_or fields i f
+pub names_more : (t0 t t' : Table) (s : SymId) (fields : List NewField) (i : ℕ) (f d : NewField) (ids more : List SymId) (r u : SymId) → wanted.AreKnownFields t0 fields → i < length fields → f ≡ get_or fields i d
     → Makes t0 t (all_names t0 s (take i fields)) ids → Makes t t' (field_names t.packages (name_of t f.name)) (r ∷ f.name ∷ u ∷ []) → more ≡ ((ids ++ r ∷ []) ++ f.name ∷ []) ++ u ∷ []
     → Makes t0 t' (all_names t0 s (take (i + 1) fields)) more
-names_more t0 t t' s fields i f ids more r u a l e m n p =
-    let k = field_known t0 fields i f a l e in
+names_more t0 t t' s fields i f d ids more r u a l e m n p =
+    let k = field_known t0 fields i f d a l e in
     let xs = all_names t0 s (take i fields) in
     let ys = field_names t0.packages (name_of t0 f.name) in
     let step : Makes t0 t' (xs ++ ys) (ids ++ (r ∷ f.name ∷ u ∷ [])) =
     made_then t0 t t' xs ys ids (r ∷ f.name ∷ u ∷ []) m (subst (λ (l : List QualifiedName). Makes t t' l (r ∷ f.name ∷ u ∷ [])) (names_then t0 t m.grows m.packages f.name k) n) in
     let names : xs ++ ys ≡ all_names t0 s (take (i + 1) fields) =
-    sym (ap (all_names t0 s) (take_more fields i f l ∙ ap (λ (g : NewField). take i fields ++ g ∷ []) (sym e)) ∙ (all_both t0 s (take i fields) (f ∷ []) ∙ ap (λ (l : List QualifiedName). xs ++ l) (append-nil ys))) in
+    sym (ap (all_names t0 s) (take_more fields i d l ∙ ap (λ (g : NewField). take i fields ++ g ∷ []) (sym e)) ∙ (names_of_both t0 s (take i fields) (f ∷ []) ∙ ap (λ (l : List QualifiedName). xs ++ l) (append-nil ys))) in
     let P : List QualifiedName → Type 0 = λ l. Makes t0 t' l more in
     let Q : List SymId → Type 0 = λ l. Makes t0 t' (xs ++ ys) l in
     subst P names (subst Q (sym (p ∙ three_pushed ids r f.name u)) step)
 
 -- there was no room for them
-pub names_full : (t0 t t' : Table) (s : SymId) (fields : List NewField) (i : ℕ) (f : NewField) (ids : List SymId) → wanted.AreKnownFields t0 fields → i < length fields → f ≡ get_or fields i f
+pub names_full : (t0 t t' : Table) (s : SymId) (fields : List NewField) (i : ℕ) (f d : NewField) (ids : List SymId) → wanted.AreKnownFields t0 fields → i < length fields → f ≡ get_or fields i d
     → Makes t0 t (all_names t0 s (take i fields)) ids → IsFull t t' (field_names t.packages (name_of t f.name)) → IsFull t0 t' (all_names t0 s fields)
-names_full t0 t t' s fields i f ids a l e m n =
-    let k = field_known t0 fields i f a l e in
+names_full t0 t t' s fields i f d ids a l e m n =
+    let k = field_known t0 fields i f d a l e in
     let xs = all_names t0 s (take i fields) in
     let ys = field_names t0.packages (name_of t0 f.name) in
     let zs = fields_names t0.packages (names_of (field_views t0 (drop (i + 1) fields))) in
     let step : IsFull t0 t' (xs ++ ys) = full_then t0 t t' xs ys ids m (subst (λ (l : List QualifiedName). IsFull t t' l) (names_then t0 t m.grows m.packages f.name k) n) in
     let names : (xs ++ ys) ++ zs ≡ all_names t0 s fields =
     append_assoc xs ys zs
-    ∙ (sym (all_both t0 s (take i fields) (f ∷ drop (i + 1) fields))
-    ∙ ap (all_names t0 s) (ap (λ (l : List NewField). take i fields ++ l) (ap (λ (g : NewField). g ∷ drop (i + 1) fields) e ∙ sym (drop_more fields i f l)) ∙ take-append-drop i fields)) in
+    ∙ (sym (names_of_both t0 s (take i fields) (f ∷ drop (i + 1) fields))
+    ∙ ap (all_names t0 s) (ap (λ (l : List NewField). take i fields ++ l) (ap (λ (g : NewField). g ∷ drop (i + 1) fields) e ∙ sym (drop_more fields i d l)) ∙ take-append-drop i fields)) in
     subst (λ (l : List QualifiedName). IsFull t0 t' l) names (full_more t0 t' (xs ++ ys) zs step)
 
 -- ---- fields
 
-views_later : (a b : Table) → Extends a b → (fields : List Field) → AreKnownFields a fields → fields_view b fields ≡ fields_view a fields
+pub views_later : (a b : Table) → Extends a b → (fields : List Field) → AreKnownFields a fields → fields_view b fields ≡ fields_view a fields
 views_later a b g [] k = refl
 views_later a b g (f ∷ fs) k =
     let l = all_first (IsKnownField a) f fs k in
     rw (symbol_later g f.name.0 l.0, symbol_later g f.updater.0 l.1, views_later a b g fs (all_rest (IsKnownField a) f fs k)) refl
 
-fields_later : (a b : Table) → Extends a b → (fields : List Field) → AreKnownFields a fields → AreKnownFields b fields
+pub fields_later : (a b : Table) → Extends a b → (fields : List Field) → AreKnownFields a fields → AreKnownFields b fields
 fields_later a b g fields k = all_map (IsKnownField a) (IsKnownField b) (λ f l. (omega (arith, g.longer, l.0), omega (arith, g.longer, l.1))) fields k
 
 pub wanted_later : (a b : Table) → Extends a b → (fields : List NewField) → wanted.AreKnownFields a fields → field_views b fields ≡ field_views a fields
@@ -107,11 +107,11 @@ field_is : (a b c d : QualifiedName) → a ≡ c → b ≡ d → (let f : model.
 field_is a b c d p q = rw (p, q) refl
 
 -- one field more
-pub fields_more : (t0 t t' : Table) (fields : List NewField) (i : ℕ) (f : NewField) (made more : List Field) (r u : SymId) → wanted.AreKnownFields t0 fields → i < length fields → f ≡ get_or fields i f
+pub fields_more : (t0 t t' : Table) (fields : List NewField) (i : ℕ) (f d : NewField) (made more : List Field) (r u : SymId) → wanted.AreKnownFields t0 fields → i < length fields → f ≡ get_or fields i d
     → Extends t0 t → t.packages ≡ t0.packages → HasFields t (field_views t0 (take i fields)) made → Makes t t' (field_names t.packages (name_of t f.name)) (r ∷ f.name ∷ u ∷ [])
     → more ≡ made ++ record { name = f.name; updater = u } ∷ [] → HasFields t' (field_views t0 (take (i + 1) fields)) more
-fields_more t0 t t' fields i f made more r u a l e g p h n q =
-    let k = field_known t0 fields i f a l e in
+fields_more t0 t t' fields i f d made more r u a l e g p h n q =
+    let k = field_known t0 fields i f d a l e in
     let here : name_of t f.name ≡ name_of t0 f.name = symbol_later g f.name.0 k in
     let x : Field = record { name = f.name; updater = u } in
     let name : name_of t' f.name ≡ name_of t0 f.name =
@@ -123,7 +123,7 @@ fields_more t0 t t' fields i f made more r u a l e g p h n q =
     let before : fields_view t' made ≡ map (new_field t'.packages) (field_views t0 (take i fields)) =
     views_later t t' n.grows made h.known ∙ (h.are ∙ ap (λ (ps : List Package). map (new_field ps) (field_views t0 (take i fields))) (sym n.packages)) in
     let wanted_more : field_views t0 (take (i + 1) fields) ≡ field_views t0 (take i fields) ++ field_view t0 f ∷ [] =
-    ap (field_views t0) (take_more fields i f l ∙ ap (λ (g : NewField). take i fields ++ g ∷ []) (sym e)) ∙ map_push (field_view t0) (take i fields) f in
+    ap (field_views t0) (take_more fields i d l ∙ ap (λ (g : NewField). take i fields ++ g ∷ []) (sym e)) ∙ map_push (field_view t0) (take i fields) f in
     let all : fields_view t' (made ++ x ∷ []) ≡ map (new_field t'.packages) (field_views t0 (take (i + 1) fields)) =
     map_push (views.field_view t') made x
     ∙ (ap (λ (l : List model.Field). l ++ views.field_view t' x ∷ []) before

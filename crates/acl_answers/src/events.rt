@@ -21,8 +21,14 @@ use acl_heap::Heap;
 use acl_syms::Symbols;
 use std::alloc::{AllocError, Global};
 
+/// The first values of fields.
+fn initial_values(alloc: Global, wanted: &[NewField]) -> Result<Vec<i128>, AllocError>
+    ensures { IfOk result (λ values. values.items ≡ map (λ field. field.initial) wanted.now) }
+{
+    wanted.iter().map(|field| field.initial).collect(alloc)
+}
+
 /// The new object, which is now the session's.
-#[tactic(auto, using(crate::proofs::EventLemmas::as_many))]
 fn defined(
     alloc: Global,
     name: SymId,
@@ -39,7 +45,7 @@ fn defined(
     ensures session { IfOk result (λ _. IsSession syms.now session.new) }
 {
     let line = line_with(alloc, b"", Word::Sym(name), heap, syms, session.current)?;
-    let values = wanted.iter().map(|field| field.initial).collect(alloc)?;
+    let values = initial_values(alloc, wanted)?;
     session.object = Some(Stobj {
         name,
         fields,

@@ -46,7 +46,7 @@ pub struct Answer {
 }
 
 /// What a command gives in a session whose table of symbols has grown from the opening one.
-#[tactic(auto, unfolding(model_output::specs::Running::run))]
+#[tactic(auto, using(acl_forms::specs::Growth::growing), unfolding(model_output::specs::Running::run))]
 pub fn run_command(
     alloc: Global,
     command: &Command,

@@ -1,6 +1,6 @@
 //! The names of an object's functions.
 
-ghost use Rattle.std.specs.Prelude.{◌≡◌, ◌<◌, ◌++◌, ◌∷◌, [], length, map, IfOk, IfSome, OnErr, IsErrOf, Some, None, codes, ◌||◌};
+ghost use Rattle.std.specs.Prelude.{◌≡◌, ◌<◌, ◌++◌, ◌∷◌, [], length, map, IfOk, IfSome, OnErr, IsErrOf, Some, None, codes, ◌||◌, if◌then◌else◌};
 ghost use Rattle.std.specs.Option.{option_map};
 ghost use Rattle.model_symbols.specs.Symbols.{Table, symbol_at};
 ghost use Rattle.model_symbols.specs.Growth.{Extends};
@@ -92,7 +92,7 @@ fn intern_beside(syms: &mut Symbols, s: SymId, name: &[u8]) -> Result<SymId, Unm
 }
 
 /// The functions of a field, beside the one that reads it: its recognizer, and the one that updates it.
-#[tactic(auto, using(crate::proofs::MakingLemmas::made_then, crate::proofs::MakingLemmas::made_known, crate::proofs::MakingLemmas::full_then, crate::proofs::MakingLemmas::full_more))]
+#[tactic(auto, using(crate::proofs::MakingLemmas::field_full, crate::proofs::MakingLemmas::updater_full))]
 fn make_field(alloc: Global, syms: &mut Symbols, f: SymId) -> Result<(SymId, SymId), Unmade>
     requires known { IsKnown syms.old f }
     ensures ok { IfOk result (λ made. Makes syms.old syms.new (events.field_names syms.old.packages (name_of syms.old f)) (made.0 ∷ f ∷ made.1 ∷ [])) }
@@ -100,15 +100,16 @@ fn make_field(alloc: Global, syms: &mut Symbols, f: SymId) -> Result<(SymId, Sym
     ensures grows { Extends syms.old syms.new }
     ensures packages { syms.new.packages ≡ syms.old.packages }
 {
-    syms.is_table();
     let recognizer_name = name_between(alloc, syms, b"", f, b"P")?;
     let updater_name = name_between(alloc, syms, b"UPDATE-", f, b"")?;
     let recognizer = intern_beside(syms, f, recognizer_name.as_slice())?;
+    syms.is_table();
     let updater = intern_beside(syms, f, updater_name.as_slice())?;
     Ok((recognizer, updater))
 }
 
 /// The functions of an object: its recognizer, and its creator.
+#[tactic(auto, using(crate::proofs::MakingLemmas::object_full, crate::proofs::MakingLemmas::creator_full))]
 fn make_object(alloc: Global, syms: &mut Symbols, s: SymId) -> Result<(SymId, SymId), Unmade>
     requires known { IsKnown syms.old s }
     ensures ok { IfOk result (λ made. Makes syms.old syms.new (name_of syms.old s ∷ events.recognizer syms.old.packages (name_of syms.old s) ∷ events.creator syms.old.packages (name_of syms.old s) ∷ []) (s ∷ made.0 ∷ made.1 ∷ [])) }
@@ -175,6 +176,13 @@ pub fn first_bad(object: SymId, fields: &[NewField], syms: &Symbols) -> Option<S
     }
 }
 
+/// The name, where it is in use, before another that is.
+fn before(name: SymId, is_in_use: bool, later: Option<SymId>) -> Option<SymId>
+    ensures { result ≡ (if is_in_use then Some name else later) }
+{
+    if is_in_use { Some(name) } else { later }
+}
+
 /// The first name that is taken, or that comes again.
 pub fn first_in_use(
     alloc: Global,
@@ -192,9 +200,8 @@ pub fn first_in_use(
     while left > 0 {
         left -= 1;
         let name = names[left];
-        if is_reserved(syms, name) | comes_later[name.0 as usize] {
-            found = Some(name);
-        }
+        let is_in_use = is_reserved(syms, name) | comes_later[name.0 as usize];
+        found = before(name, is_in_use, found);
         comes_later[name.0 as usize] = true;
     }
     Ok(found)

@@ -24,24 +24,36 @@ use acl_prims::{PrimStop, apply, arity, find};
 use acl_syms::Symbols;
 use std::alloc::{AllocError, Global};
 
-/// The values of actuals that are constants.
+/// The value of an actual that is a constant.
+fn constant(actual: Actual, _heap: &Heap, _syms: &Symbols) -> Option<Word>
+    requires { IsWholeActual _syms.now _heap.now actual }
+    ensures is { option_map (λ w. form_at _syms.now _heap.now w) result ≡ calls.constant (actual_view _syms.now _heap.now actual) }
+    ensures whole { IfSome result (IsWhole _syms.now _heap.now) }
+{
+    match actual {
+        Actual::Literal(w) => Some(w),
+        Actual::Quoted(w) => Some(w),
+        Actual::Variable(_) => None,
+        Actual::Nested => None,
+    }
+}
+
+/// The values of actuals that all are constants.
 fn constants(
     alloc: Global,
     actuals: &[Actual],
-    _heap: &Heap,
-    _syms: &Symbols,
+    heap: &Heap,
+    syms: &Symbols,
 ) -> Result<Option<Vec<Word>>, AllocError>
-    requires actuals { AreWholeActuals _syms.now _heap.now actuals.now }
-    ensures is { IfOk result (λ found. option_map (λ ws. forms_at _syms.now _heap.now ws.items) found ≡ calls.constants (actual_views _syms.now _heap.now actuals.now)) }
-    ensures whole { IfOk result (λ found. IfSome found (λ ws. AreWhole _syms.now _heap.now ws.items)) }
+    requires actuals { AreWholeActuals syms.now heap.now actuals.now }
+    ensures is { IfOk result (λ found. option_map (λ ws. forms_at syms.now heap.now ws.items) found ≡ calls.constants (actual_views syms.now heap.now actuals.now)) }
+    ensures whole { IfOk result (λ found. IfSome found (λ ws. AreWhole syms.now heap.now ws.items)) }
 {
     let mut words = Vec::new(alloc);
     for actual in actuals {
-        match actual {
-            Actual::Literal(w) => words.push(*w)?,
-            Actual::Quoted(w) => words.push(*w)?,
-            Actual::Variable(_) => return Ok(None),
-            Actual::Nested => return Ok(None),
+        match constant(*actual, heap, syms) {
+            Some(w) => words.push(w)?,
+            None => return Ok(None),
         }
     }
     Ok(Some(words))

@@ -1,6 +1,6 @@
 //! An object of integer fields.
 
-ghost use Rattle.std.specs.Prelude.{◌≡◌, ◌<◌, length, IfSome, Some, None, position, option_map};
+ghost use Rattle.std.specs.Prelude.{◌≡◌, ◌<◌, length, IfSome, Some, None, position, option_map, nat_eq};
 ghost use Rattle.model_symbols.specs.Symbols.{symbol_at, same_name};
 ghost use Rattle.model_output.specs.Sessions as model;
 ghost use Rattle.model_output.specs.Objects as objects;
@@ -32,8 +32,24 @@ pub enum FieldUse {
     Updates(usize),
 }
 
+/// The place of the field that the function of this number reads.
+fn reader_place(fields: &[Field], f: SymId) -> Option<usize>
+    ensures is { result ≡ position (λ field. nat_eq f.0 field.name.0) fields.now }
+    ensures within { IfSome result (λ k. k < length fields.now) }
+{
+    fields.iter().position(|field| f.0 == field.name.0)
+}
+
+/// The place of the field that the function of this number updates.
+fn updater_place(fields: &[Field], f: SymId) -> Option<usize>
+    ensures is { result ≡ position (λ field. nat_eq f.0 field.updater.0) fields.now }
+    ensures within { IfSome result (λ k. k < length fields.now) }
+{
+    fields.iter().position(|field| f.0 == field.updater.0)
+}
+
 /// The number of the field that a function of this name reads.
-#[tactic(auto, using(crate::proofs::StobjLemmas::read_position))]
+
 fn read_field(fields: &[Field], f: SymId, syms: &Symbols) -> Option<usize>
     requires f { IsKnown syms.now f }
     requires fields { AreKnownFields syms.now fields.now }
@@ -41,11 +57,11 @@ fn read_field(fields: &[Field], f: SymId, syms: &Symbols) -> Option<usize>
     ensures within { IfSome result (λ k. k < length fields.now) }
 {
     syms.is_table();
-    fields.iter().position(|field| f.0 == field.name.0)
+    reader_place(fields, f)
 }
 
 /// The number of the field that a function of this name updates.
-#[tactic(auto, using(crate::proofs::StobjLemmas::updated_position))]
+
 fn updated_field(fields: &[Field], f: SymId, syms: &Symbols) -> Option<usize>
     requires f { IsKnown syms.now f }
     requires fields { AreKnownFields syms.now fields.now }
@@ -53,7 +69,7 @@ fn updated_field(fields: &[Field], f: SymId, syms: &Symbols) -> Option<usize>
     ensures within { IfSome result (λ k. k < length fields.now) }
 {
     syms.is_table();
-    fields.iter().position(|field| f.0 == field.updater.0)
+    updater_place(fields, f)
 }
 
 impl Stobj {

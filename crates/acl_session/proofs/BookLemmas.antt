@@ -21,31 +21,6 @@ use Rattle.acl_answers.specs.Whole.{IsSession, IsKnownStobj, AreKnownFields}
 use Rattle.acl_answers.specs.Answers.{Answers}
 use Rattle.acl_session.specs.Runs.{counted_by}
 
--- ---- a session whose table has grown
-
-fields_later : (a b : Table) → Extends a b → (fields : List Field) → AreKnownFields a fields → fields_view b fields ≡ fields_view a fields
-fields_later a b g [] k = refl
-fields_later a b g (f ∷ fs) k = rw (symbol_later g f.name.0 k.0.0, symbol_later g f.updater.0 k.0.1, fields_later a b g fs k.1) refl
-
-known_later : (a b : Table) → Extends a b → (fields : List Field) → AreKnownFields a fields → AreKnownFields b fields
-known_later a b g [] k = tt
-known_later a b g (f ∷ fs) k = ((omega (arith, g.longer, k.0.0), omega (arith, g.longer, k.0.1)), known_later a b g fs k.1)
-
-object_later : (a b : Table) → Extends a b → (o : Option Stobj) → IfSome o (IsKnownStobj a) → option_map (stobj_view b) o ≡ option_map (stobj_view a) o
-object_later a b g None k = refl
-object_later a b g (Some o) k = rw (symbol_later g o.name.0 k.name, fields_later a b g o.fields.items k.fields) refl
-
-object_known_later : (a b : Table) → Extends a b → (o : Option Stobj) → IfSome o (IsKnownStobj a) → IfSome o (IsKnownStobj b)
-object_known_later a b g None k = tt
-object_known_later a b g (Some o) k = record { name = omega (arith, g.longer, k.name); fields = known_later a b g o.fields.items k.fields; same = k.same }
-
--- its view is that of before, in which the new symbols are known
-pub session_later : (a b : Table) (s : Session) → Extends a b → b.packages ≡ a.packages → IsSession a s → session_view b s ≡ model.knowing (session_view a s) b.symbols
-session_later a b s g p i = rw (object_later a b g s.object i.object, p) refl
-
-pub session_known_later : (a b : Table) (s : Session) → Extends a b → IsSession a s → IsSession b s
-session_known_later a b s g i = record { current = omega (arith, g.more_packages, i.current); object = object_known_later a b g s.object i.object }
-
 -- ---- what is left of the output
 
 at_stands : (most : ℕ) (s : model.Session) (t : Totals) (offset : ℕ) (bytes : List ℕ) (next : Next) (form : Form) (at : ℕ) (symbols : List QualifiedName) → next ≡ Stands form at symbols

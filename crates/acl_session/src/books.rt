@@ -88,7 +88,7 @@ pub fn run_forms<K: Sink>(
         object: None,
     };
     let start = heap.mark();
-    for _ in 0..input.len() + 1 {
+    for turn in 0..input.len() + 1 {
         match reader.take(&mut heap, &mut syms, session.current) {
             Ok(found) => match found {
                 Some(form) => {

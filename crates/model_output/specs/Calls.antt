@@ -1,6 +1,6 @@
 -- Calls of primitives on constants.
 use Rattle.std.specs.Prelude.{ℕ, ◌==◌, List, [], ◌∷◌, ◌++◌, length, map, codes, Option, Some, None, unwrap_or, false, if◌then◌else◌}
-use Rattle.std.specs.Option.{option_map}
+use Rattle.std.specs.Option.{option_map, option_and_then}
 use Rattle.model_objects.specs.Object.{Object, named}
 use Rattle.model_symbols.specs.Symbols.{QualifiedName, number_of, form_of}
 use Rattle.model_text.specs.Token.{Form}
@@ -10,16 +10,20 @@ use Rattle.model_output.specs.Commands.{Actual, Literal, Quoted, Variable, Neste
 use Rattle.model_output.specs.Sessions.{Session, knowing, Answered}
 use Rattle.model_output.specs.Lines.{printed, printed_symbol, refused, NotYet, stopped, violation_text}
 
--- the values of actuals that are constants
-abbrev pub with_constant : Form → Option (List Form) → Option (List Form)
-with_constant f fs = option_map (λ (rest : List Form). f ∷ rest) fs
+-- the value of an actual that is a constant
+abbrev pub constant : Actual → Option Form
+constant (Literal f) = Some f
+constant (Quoted f) = Some f
+constant (Variable s) = None
+constant Nested = None
 
+abbrev pub with_constant : Option (List Form) → Form → Option (List Form)
+with_constant fs f = option_map (λ (rest : List Form). f ∷ rest) fs
+
+-- the values of actuals that all are constants
 abbrev pub constants : List Actual → Option (List Form)
 constants [] = Some []
-constants (Literal f ∷ actuals) = with_constant f (constants actuals)
-constants (Quoted f ∷ actuals) = with_constant f (constants actuals)
-constants (Variable s ∷ actuals) = None
-constants (Nested ∷ actuals) = None
+constants (a ∷ actuals) = option_and_then (with_constant (constants actuals)) (constant a)
 
 -- a form with its symbols by number
 abbrev pub numbered : List QualifiedName → Form → Object ℕ

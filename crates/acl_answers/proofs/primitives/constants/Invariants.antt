@@ -7,6 +7,6 @@ use Rattle.acl_answers.proofs.primitives.constants.Given as goal
 
 abbrev pub invariant-loop-actual : goal.invariant-loop-actual
 invariant-loop-actual l = record {
-  words : AreWhole l._syms l._heap l.words.items;
-  same : behind (forms_at l._syms l._heap l.words.items) (constants (actual_views l._syms l._heap (drop l.actual-index l.actuals))) ≡ constants (actual_views l._syms l._heap l.actuals);
+  words : AreWhole l.syms l.heap l.words.items;
+  same : behind (forms_at l.syms l.heap l.words.items) (constants (actual_views l.syms l.heap (drop l.actual-index l.actuals))) ≡ constants (actual_views l.syms l.heap l.actuals);
 }

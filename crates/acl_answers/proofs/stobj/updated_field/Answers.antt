@@ -1,0 +1,6 @@
+use Rattle.std.proofs.Common.{◌∙◌}
+use Rattle.acl_answers.proofs.StobjLemmas.{updated_position}
+use Rattle.acl_answers.proofs.stobj.updated_field.Goals as goal
+
+pub returns-clause-is : goal.returns-clause-is
+returns-clause-is c = c.updater_place.ensures.is ∙ updated_position c.args.syms.now c.is_table.ensures c.args.f c.requires.f c.args.fields.now c.requires.fields
