@@ -34,8 +34,12 @@ part_first a b x z p = record { part = p.part; rest = p.rest ++ z; split = ap (�
 
 -- ---- a book's commands
 
-writing_start : (a : Option (List ℕ)) (all : Output) → Writing a a all all
-writing_start a all = record { part = []; takes = Takes-nothing a; whole = refl }
+pub writing_start : (a : Option (List ℕ)) (left all : Output) → left ≡ all → Writing a a left all
+writing_start a left all e = record { part = []; takes = Takes-nothing a; whole = e }
+
+-- what is left, seen otherwise
+pub writing_as : (a b : Option (List ℕ)) (left same all : Output) → Writing a b left all → left ≡ same → Writing a b same all
+writing_as a b left same all w e = subst (λ (o : Output). Writing a b o all) e w
 
 -- a line more was written of what is left
 pub writing_line : (a b c : Option (List ℕ)) (text : List ℕ) (left rest all : Output) → Writing a b left all → left ≡ before (line text) rest → Takes b c (line text) → Writing a c rest all

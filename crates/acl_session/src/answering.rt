@@ -10,6 +10,7 @@ use crate::reading::MOST_BYTES;
 use crate::totals::Totals;
 use acl_base::Status;
 use acl_edge::{Failed, Sink, write_all};
+use acl_read::{TextCause, TextFault};
 use std::alloc::{AllocError, AllocFailed, Global};
 
 /// Why an output was not written whole.
@@ -166,5 +167,6 @@ pub fn answer<K: Sink>(alloc: Global, input: &[u8], sink: &mut K) -> Result<Stat
         return end_at_fault(alloc, b"NotYet", MOST_BYTES as u64, &totals, sink);
     }
     let ended = run_forms(alloc, input, &mut totals, sink)?;
-    end(alloc, ended, &totals, sink)
+    let status = end(alloc, ended, &totals, sink)?;
+    Ok(status)
 }

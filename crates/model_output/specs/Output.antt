@@ -28,7 +28,7 @@ abbrev pub counted : Totals → Answered → Totals
 counted t a = record { commands = t.commands + 1; calls = t.calls + a.calls; errors = t.errors + one_if a.is_error }
 
 unfoldable pub summary_text : Totals → List ℕ
-summary_text t = codes "; " ++ (decimal t.commands ++ (codes " commands, " ++ (decimal t.calls ++ (codes " calls, " ++ (decimal t.errors ++ codes " errors")))))
+summary_text t = codes "; " ++ decimal t.commands ++ codes " commands, " ++ decimal t.calls ++ codes " calls, " ++ decimal t.errors ++ codes " errors"
 
 -- ---- text faults
 
