@@ -1,15 +1,14 @@
 -- Names that become known, one after another.
-use Rattle.std.specs.Prelude.{◌≡◌, ℕ, ◌<◌, codes, List, [], ◌∷◌, ◌++◌, length, map, Bool, true, false, not, ◌&&◌, Some, None, is_some, nat_lt, if◌then◌else◌, refl}
+use Rattle.std.specs.Prelude.{◌≡◌, ℕ, ◌<◌, codes, List, [], ◌∷◌, ◌++◌, length, true, false, not, ◌&&◌, Some, is_some, nat_lt, refl}
 use Rattle.std.proofs.Common.{sym, ap, ◌∙◌, subst, arith}
-use Rattle.std.specs.List.{All}
-use Rattle.std.proofs.lemmas.List.{append_assoc, append-nil}
-use Rattle.model_symbols.specs.Symbols.{QualifiedName, Package, Table, symbol_at, symbol_in, package_number, package_at, interned, is_known, is_one_too_many, most_symbols}
-use Rattle.model_symbols.specs.Growth.{Extends, IsSymbol}
-use Rattle.model_symbols.specs.Tables.{symbol_under, with_symbol, IsTable}
+use Rattle.std.proofs.lemmas.List.{append_assoc}
+use Rattle.model_symbols.specs.Symbols.{QualifiedName, Table, symbol_in, package_number, interned, is_known, is_one_too_many, most_symbols}
+use Rattle.model_symbols.specs.Growth.{Extends}
+use Rattle.model_symbols.specs.Tables.{symbol_under, IsTable}
 use Rattle.model_symbols.proofs.NameLemmas.{symbol_at-is, symbol-at, number-known, is_known-is, interned-known}
 use Rattle.model_symbols.proofs.TableLemmas.{Extends-self, Extends-then}
-use Rattle.model_prims.specs.Applied.{package_called, package_or}
-use Rattle.model_output.specs.Events.{Room, beside, with_names, recognizer, creator, updater, field_names}
+use Rattle.model_prims.specs.Applied.{package_or}
+use Rattle.model_output.specs.Events.{beside, with_names, recognizer, creator, updater, field_names}
 use Rattle.acl_syms.specs.Answers.{Interns}
 use Rattle.acl_forms.specs.Growth.{symbol_later}
 use Rattle.acl_base.specs.declared.SymId.{SymId}

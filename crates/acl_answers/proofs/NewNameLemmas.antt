@@ -1,11 +1,9 @@
 -- The names of a definition's fields, one field after another.
-use Rattle.std.specs.Prelude.{◌≡◌, ℕ, zero, suc, ◌+◌, ◌<◌, List, [], ◌∷◌, ◌++◌, length, map, take, drop, refl}
+use Rattle.std.specs.Prelude.{◌≡◌, ℕ, ◌+◌, ◌<◌, List, [], ◌∷◌, ◌++◌, length, map, take, drop, refl}
 use Rattle.std.proofs.Common.{sym, ap, ◌∙◌, subst, arith, get_or}
-use Rattle.std.specs.List.{All}
 use Rattle.std.proofs.lemmas.List.{append_assoc, append-nil, take_more, drop_more, map_push, take-append-drop}
 use Rattle.model_symbols.specs.Symbols.{QualifiedName, Package, Table}
 use Rattle.model_symbols.specs.Growth.{Extends}
-use Rattle.model_output.specs.Commands as commands
 use Rattle.model_output.specs.Sessions as model
 use Rattle.model_output.specs.Events.{names_of, field_names, fields_names, new_names, new_field, recognizer, creator, updater}
 use Rattle.acl_base.specs.declared.SymId.{SymId}

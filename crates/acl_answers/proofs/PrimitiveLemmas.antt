@@ -1,14 +1,14 @@
 -- Calls of primitives.
-use Rattle.std.specs.Prelude.{◌≡◌, ℕ, ◌+◌, ◌<◌, ◌==◌, List, [], ◌∷◌, ◌++◌, length, drop, map, Bool, true, false, Option, Some, None, IsErr, Result, Ok, unwrap_or, if◌then◌else◌, refl}
+use Rattle.std.specs.Prelude.{◌≡◌, ℕ, ◌+◌, ◌<◌, ◌==◌, List, [], ◌∷◌, ◌++◌, length, drop, map, Bool, true, false, Option, Some, None, unwrap_or, if◌then◌else◌, refl}
 use Rattle.std.proofs.Common.{sym, ap, ◌∙◌, subst, get_or}
 use Rattle.std.specs.Option.{option_map, option_and_then}
 use Rattle.std.proofs.lemmas.List.{drop_more, map_push}
 use Rattle.acl_commands.specs.declared.Actual as code
 use Rattle.acl_commands.specs.Views.{actual_view, actual_views}
 use Rattle.acl_commands.proofs.PartLemmas.{behind, behind_one}
-use Rattle.model_objects.specs.Object.{Object, Integer, Symbol, Text, Pair, named}
+use Rattle.model_objects.specs.Object.{Object, Integer, Symbol, Text, Pair}
 use Rattle.model_objects.specs.Named.{Knows}
-use Rattle.model_symbols.specs.Symbols.{QualifiedName, Table, symbol_at, number_of, form_of}
+use Rattle.model_symbols.specs.Symbols.{QualifiedName, Table, symbol_at, form_of}
 use Rattle.model_symbols.specs.Tables.{IsTable}
 use Rattle.model_symbols.proofs.NameLemmas.{symbol-at, number-known}
 use Rattle.model_text.specs.Token.{Form}
@@ -22,14 +22,14 @@ use Rattle.model_output.specs.Running.{object_call}
 use Rattle.model_output.specs.Calls.{numbered, given, applied_row, on_constants, row_call, primitive_call, constant, with_constant, constants}
 use Rattle.acl_base.specs.declared.Word.{Word}
 use Rattle.acl_heap.specs.Objects.{Objects, object_of}
-use Rattle.acl_forms.specs.Forms.{IsWhole, AreWhole, form_at, forms_at}
+use Rattle.acl_forms.specs.Forms.{AreWhole, form_at, forms_at}
 use Rattle.acl_numbers.specs.Answers.{IsStop}
 use Rattle.acl_numbers.specs.declared.stops.PrimStop.{PrimStop}
 use Rattle.acl_numbers.specs.declared.stops.PrimStop.TheVariants as prim_stop
 use Rattle.acl_prims.specs.Made.{objects_of}
 use Rattle.acl_answers.specs.declared.Answer.{Answer}
 use Rattle.acl_answers.specs.Views.{session_in, UsesOf}
-use Rattle.acl_answers.specs.Answers.{Says, Answers}
+use Rattle.acl_answers.specs.Answers.{Answers}
 use Rattle.acl_answers.specs.Stops.{stop_line}
 use Rattle.acl_answers.proofs.EventLemmas.{known_is}
 

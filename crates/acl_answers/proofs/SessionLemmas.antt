@@ -1,6 +1,6 @@
 -- A session whose table has grown.
-use Rattle.std.specs.Prelude.{◌≡◌, ℕ, ◌<◌, List, [], ◌∷◌, length, Option, Some, None, IfSome, refl}
-use Rattle.std.proofs.Common.{sym, ap, ◌∙◌, arith}
+use Rattle.std.specs.Prelude.{◌≡◌, Option, Some, None, IfSome, refl}
+use Rattle.std.proofs.Common.{ap, arith}
 use Rattle.std.specs.Option.{option_map}
 use Rattle.model_symbols.specs.Symbols.{Table}
 use Rattle.model_symbols.specs.Growth.{Extends}
@@ -8,9 +8,8 @@ use Rattle.model_output.specs.Sessions as model
 use Rattle.acl_forms.specs.Growth.{symbol_later}
 use Rattle.acl_answers.specs.declared.Session.{Session}
 use Rattle.acl_answers.specs.declared.stobj.Stobj.{Stobj}
-use Rattle.acl_answers.specs.declared.stobj.Field.{Field}
-use Rattle.acl_answers.specs.Views.{session_view, stobj_view, fields_view}
-use Rattle.acl_answers.specs.Whole.{IsSession, IsKnownStobj, IsKnownField, AreKnownFields}
+use Rattle.acl_answers.specs.Views.{session_view, stobj_view}
+use Rattle.acl_answers.specs.Whole.{IsSession, IsKnownStobj}
 use Rattle.acl_answers.proofs.NewNameLemmas.{views_later, fields_later}
 
 object_later : (a b : Table) → Extends a b → (o : Option Stobj) → IfSome o (IsKnownStobj a) → option_map (stobj_view b) o ≡ option_map (stobj_view a) o

@@ -1,11 +1,11 @@
 -- Symbols by their numbers and by their names.
-use Rattle.std.specs.Prelude.{◌≡◌, ℕ, ◌+◌, ◌<◌, List, [], ◌∷◌, length, Bool, true, false, nat_eq, position, Option, Some, None, cond, refl}
-use Rattle.std.proofs.Common.{sym, ap, ◌∙◌, arith}
+use Rattle.std.specs.Prelude.{◌≡◌, ℕ, ◌+◌, ◌<◌, List, [], ◌∷◌, length, Bool, true, false, nat_eq, position, Some, refl}
+use Rattle.std.proofs.Common.{sym, ap, ◌∙◌}
 use Rattle.std.specs.Bool.{Decides}
 use Rattle.std.specs.List.{All, position_from}
 use Rattle.std.proofs.lemmas.Iterator.Adapters.{position_from-zero}
 use Rattle.std.proofs.lemmas.Bool.Decides.{Decides-eqb}
-use Rattle.model_symbols.specs.Symbols.{QualifiedName, Table, symbol_at, same_name}
+use Rattle.model_symbols.specs.Symbols.{Table, symbol_at, same_name}
 use Rattle.model_symbols.specs.Tables.{IsTable}
 use Rattle.model_symbols.proofs.NameLemmas.{same_name-Decides, symbol-at}
 use Rattle.model_symbols.proofs.Positions.{position-map}

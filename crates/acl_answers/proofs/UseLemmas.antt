@@ -1,11 +1,11 @@
 -- Which names come again.
-use Rattle.std.specs.Prelude.{◌≡◌, ◌≢◌, ℕ, zero, suc, ◌+◌, ◌-◌, ◌<◌, ◌≤◌, List, [], ◌∷◌, length, drop, Bool, true, false, ◌||◌, nat_eq, Option, Some, None, slice_set, IfSome, if◌then◌else◌, refl}
+use Rattle.std.specs.Prelude.{◌≡◌, ℕ, zero, suc, ◌+◌, ◌-◌, ◌<◌, ◌≤◌, List, [], ◌∷◌, length, drop, Bool, true, false, ◌||◌, nat_eq, Option, Some, slice_set, IfSome, if◌then◌else◌, refl}
 use Rattle.std.proofs.Common.{sym, ap, ◌∙◌, subst, arith, get_or}
 use Rattle.std.specs.Option.{option_map}
-use Rattle.std.proofs.lemmas.Bool.Decides.{Decides-eqb, nat_tests}
-use Rattle.std.specs.List.{list_any, All}
+use Rattle.std.proofs.lemmas.Bool.Decides.{Decides-eqb}
+use Rattle.std.specs.List.{list_any}
 use Rattle.std.proofs.lemmas.List.{drop_more, get_or-set_same, get_or-set_other}
-use Rattle.model_symbols.specs.Symbols.{QualifiedName, Table, symbol_at, same_name, is_known}
+use Rattle.model_symbols.specs.Symbols.{Table, is_known}
 use Rattle.model_symbols.specs.Tables.{IsTable}
 use Rattle.model_output.specs.Events.{first_in_use}
 use Rattle.model_output.specs.Reserved.{is_reserved}

@@ -1,7 +1,6 @@
 -- The sessions of the definitions that the code's sessions stand for, where the table is at hand.
 use Rattle.std.specs.Prelude.{◌≡◌, ℕ, ◌<◌, List, length, map, Option, Some, None}
 use Rattle.std.specs.Option.{option_map}
-use Rattle.model_objects.specs.Object.{Text}
 use Rattle.model_symbols.specs.Symbols.{QualifiedName, Table, symbol_at}
 use Rattle.model_output.specs.Sessions as model
 use Rattle.model_output.specs.Lines as lines

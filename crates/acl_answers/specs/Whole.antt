@@ -1,5 +1,5 @@
 -- Sessions whose symbols and package are known.
-use Rattle.std.specs.Prelude.{◌≡◌, ◌<◌, List, length, Option, IfSome}
+use Rattle.std.specs.Prelude.{◌≡◌, ◌<◌, List, length, IfSome}
 use Rattle.std.specs.List.{All}
 use Rattle.model_symbols.specs.Symbols.{Table}
 use Rattle.acl_base.specs.declared.SymId.{SymId}

@@ -53,7 +53,13 @@ fn is_object(object: &Stobj, actual: Actual, _heap: &Heap, syms: &Symbols) -> bo
 }
 
 /// The value of a field.
-fn was_read(alloc: Global, object: &Stobj, k: usize, syms: &Symbols, _current: PkgId) -> Result<Answer, AllocError>
+fn was_read(
+    alloc: Global,
+    object: &Stobj,
+    k: usize,
+    syms: &Symbols,
+    _current: PkgId,
+) -> Result<Answer, AllocError>
     requires k { k < length object.now.values.items }
     ensures { IfOk result (Says (objects.was_read (session_of syms.now _current.0 object.now) (stobj_view syms.now object.now) k)) }
 {

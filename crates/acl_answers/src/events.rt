@@ -78,7 +78,13 @@ fn if_free(
 {
     match first_in_use(alloc, made.names.as_slice(), syms)? {
         Some(taken) => {
-            let answer = refused(alloc, Refusal::NameInUse(taken), heap, syms, session.current)?;
+            let answer = refused(
+                alloc,
+                Refusal::NameInUse(taken),
+                heap,
+                syms,
+                session.current,
+            )?;
             Ok(answer)
         }
         None => {

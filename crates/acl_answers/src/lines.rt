@@ -97,10 +97,38 @@ fn refusal_line(
     match refusal {
         Refusal::NotYet => Vec::from_slice(alloc, b"Refused: NotYet"),
         Refusal::SymbolLimit => Vec::from_slice(alloc, b"Refused: SymbolLimit"),
-        Refusal::BadShape(s) => line_with(alloc, b"Refused: BadShape ", Word::Sym(s), heap, syms, current),
-        Refusal::BadName(s) => line_with(alloc, b"Refused: BadName ", Word::Sym(s), heap, syms, current),
-        Refusal::NameInUse(s) => line_with(alloc, b"Refused: NameInUse ", Word::Sym(s), heap, syms, current),
-        Refusal::UnknownPackage(w) => line_with(alloc, b"Refused: UnknownPackage ", w, heap, syms, current),
+        Refusal::BadShape(s) => line_with(
+            alloc,
+            b"Refused: BadShape ",
+            Word::Sym(s),
+            heap,
+            syms,
+            current,
+        ),
+        Refusal::BadName(s) => line_with(
+            alloc,
+            b"Refused: BadName ",
+            Word::Sym(s),
+            heap,
+            syms,
+            current,
+        ),
+        Refusal::NameInUse(s) => line_with(
+            alloc,
+            b"Refused: NameInUse ",
+            Word::Sym(s),
+            heap,
+            syms,
+            current,
+        ),
+        Refusal::UnknownPackage(w) => line_with(
+            alloc,
+            b"Refused: UnknownPackage ",
+            w,
+            heap,
+            syms,
+            current,
+        ),
     }
 }
 

@@ -87,7 +87,12 @@ fn intern_beside(syms: &mut Symbols, s: SymId, name: &[u8]) -> Result<SymId, Unm
         Err(SymFault::Memory) => Err(Unmade::Memory),
         Err(SymFault::UnknownPackage) => unreachable!(),
         Err(SymFault::PackageExists) => unreachable!(),
-        Err(SymFault::ImportClash { first: _, second: _ }) => unreachable!(),
+        Err(
+            SymFault::ImportClash {
+                first: _,
+                second: _,
+            },
+        ) => unreachable!(),
     }
 }
 

@@ -1,5 +1,5 @@
 -- A command whose words lie in the heap, and whose symbols are known.
-use Rattle.std.specs.Prelude.{ℕ, ◌<◌, List, length}
+use Rattle.std.specs.Prelude.{◌<◌, List, length}
 use Rattle.std.specs.List.{All}
 use Rattle.model_symbols.specs.Symbols.{Table}
 use Rattle.acl_heap.specs.Objects.{Objects, object_of, Lies, IsText}

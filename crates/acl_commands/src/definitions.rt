@@ -49,7 +49,11 @@ fn field_in(parts: &[Word], heap: &Heap, syms: &Symbols) -> Option<NewField>
             let is_type = is_symbol(*key, b"KEYWORD", b"TYPE", heap, syms);
             let is_integer = is_symbol(*kind, b"COMMON-LISP", b"INTEGER", heap, syms);
             let is_initially = is_symbol(*other, b"KEYWORD", b"INITIALLY", heap, syms);
-            if is_type & (is_integer & is_initially) { field } else { None }
+            if is_type & (is_integer & is_initially) {
+                field
+            } else {
+                None
+            }
         }
         _ => None,
     }

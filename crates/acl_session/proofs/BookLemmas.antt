@@ -1,6 +1,6 @@
 -- A book, as far as its commands were run.
-use Rattle.std.specs.Prelude.{◌≡◌, ◌≢◌, ℕ, suc, ◌+◌, ◌-◌, ◌≤◌, ◌<◌, ◌==◌, List, [], ◌∷◌, length, map, drop, Bool, true, false, Option, Some, None, Ok, Err, if◌then◌else◌, refl}
-use Rattle.std.proofs.Common.{sym, ap, ◌∙◌, subst, arith}
+use Rattle.std.specs.Prelude.{◌≡◌, ◌≢◌, ℕ, suc, ◌-◌, ◌≤◌, ◌==◌, List, [], ◌∷◌, length, map, drop, Bool, true, false, Option, Some, None, Ok, Err, if◌then◌else◌, refl}
+use Rattle.std.proofs.Common.{sym, ap, ◌∙◌, arith}
 use Rattle.std.specs.Str.{bytes_eq}
 use Rattle.model_objects.specs.Object.{Integer, Symbol, Text, Pair}
 use Rattle.model_symbols.specs.Symbols.{QualifiedName, Table, package_number}

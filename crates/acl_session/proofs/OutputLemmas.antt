@@ -106,15 +106,15 @@ pub output_long : (bytes : List ℕ) → most_bytes < length bytes → output by
 unfolding output
 output_long bytes l =
     ap (λ t. if t then answers (length bytes + 1) sessions.first_session no_totals 0 bytes else faulty no_totals (codes "NotYet") most_bytes) (not_le (length bytes) l) where
-  not_le : (n : ℕ) → most_bytes < n → nat_le n most_bytes ≡ false
-  not_le n h = grind (arith, nat_tests)
+      not_le : (n : ℕ) → most_bytes < n → nat_le n most_bytes ≡ false
+      not_le n h = grind (arith, nat_tests)
 
 pub output_short : (bytes : List ℕ) → length bytes ≤ most_bytes → output bytes ≡ answers (length bytes + 1) sessions.first_session no_totals 0 bytes
 unfolding output
 output_short bytes l =
     ap (λ t. if t then answers (length bytes + 1) sessions.first_session no_totals 0 bytes else faulty no_totals (codes "NotYet") most_bytes) (le (length bytes) l) where
-  le : (n : ℕ) → n ≤ most_bytes → nat_le n most_bytes ≡ true
-  le n h = grind (arith, nat_tests)
+      le : (n : ℕ) → n ≤ most_bytes → nat_le n most_bytes ≡ true
+      le n h = grind (arith, nat_tests)
 
 record Told (left : Option (List ℕ)) (bytes : List ℕ) : Type 0 where
   input : List ℕ

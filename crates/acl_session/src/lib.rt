@@ -4,7 +4,9 @@
 mod answering;
 mod books;
 mod reading;
+mod reading_back;
 mod running;
 mod totals;
 
+pub use reading_back::reads_back;
 pub use running::run;

@@ -1,6 +1,6 @@
 use Rattle.std.specs.Prelude.{Option}
 use Rattle.std.specs.Option.{option_map}
-use Rattle.std.proofs.Common.{sym, ap, ◌∙◌, subst, rules}
+use Rattle.std.proofs.Common.{sym, ap, subst, rules}
 use Rattle.model_output.specs.Sessions as model
 use Rattle.acl_answers.specs.declared.stobj.Stobj.{Stobj}
 use Rattle.acl_answers.specs.Making.{IsFull}

@@ -1,4 +1,4 @@
-use Rattle.std.specs.Prelude.{◌≡◌, ◌≤◌, ◌<◌, ◌-◌, refl, length, slice_set, Option, Some, IfSome, ◌||◌, if◌then◌else◌, true, false}
+use Rattle.std.specs.Prelude.{◌-◌, refl, Option, Some, IfSome, ◌||◌, if◌then◌else◌, true, false}
 use Rattle.std.proofs.Common.{arith, sym, ap, ◌∙◌, subst, get_or}
 use Rattle.std.proofs.lemmas.List.{length-set}
 use Rattle.acl_base.specs.declared.SymId.{SymId}

@@ -1,5 +1,5 @@
-use Rattle.std.specs.Prelude.{◌≡◌, refl, ◌∷◌, [], ℕ, pos, take}
-use Rattle.std.proofs.Common.{sym, ap, ◌∙◌, subst, rules, arith}
+use Rattle.std.specs.Prelude.{◌≡◌, refl, pos, take}
+use Rattle.std.proofs.Common.{sym, subst, rules}
 use Rattle.std.proofs.lemmas.List.{take_all}
 use Rattle.acl_commands.specs.declared.definitions.NewField.{NewField}
 use Rattle.acl_commands.specs.Views.{field_views}

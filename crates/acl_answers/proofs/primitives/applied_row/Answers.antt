@@ -1,8 +1,7 @@
-use Rattle.std.specs.Prelude.{◌≡◌, refl, map, List, true}
+use Rattle.std.specs.Prelude.{◌≡◌, refl, map, true}
 use Rattle.acl_answers.specs.declared.Answer.{Answer}
 use Rattle.std.proofs.Common.{sym, ap, ◌∙◌, subst}
 use Rattle.model_symbols.specs.Symbols.{Table}
-use Rattle.model_text.specs.Token.{Form}
 use Rattle.model_prims.specs.Applied.{applied}
 use Rattle.model_prims.specs.Rows.{prim_of}
 use Rattle.model_output.specs.Calls.{numbered, given}

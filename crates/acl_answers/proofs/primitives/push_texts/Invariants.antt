@@ -1,4 +1,4 @@
-use Rattle.std.proofs.Common.{◌≡◌, ◌++◌, map, take, drop}
+use Rattle.std.proofs.Common.{◌≡◌, ◌++◌, map, drop}
 use Rattle.model_output.specs.Lines.{spaced, printed}
 use Rattle.acl_forms.specs.Forms.{forms_at, AreWhole}
 use Rattle.acl_answers.specs.Views.{session_in}

@@ -25,6 +25,6 @@ returns-in_err-write_line-2-clause-part g c =
 pub returns-clause-ok : goal.returns-clause-ok
 returns-clause-ok g c = (
   fault_done (g.K.Sink.written c.args.sink.now) (g.K.Sink.written c.write_line.new.sink) (g.K.Sink.written c.write_line-2.new.sink) (totals_view c.args.totals.now) c.args.name.now c.args.offset
-  c.in_ok-line.line.items c.in_ok-summary.summary.items c.in_ok-line.ensures c.in_ok-summary.ensures c.in_ok-write_line.ensures.ok c.in_ok-write_line-2.ensures.ok,
+      c.in_ok-line.line.items c.in_ok-summary.summary.items c.in_ok-line.ensures c.in_ok-summary.ensures c.in_ok-write_line.ensures.ok c.in_ok-write_line-2.ensures.ok,
   refl,
 )

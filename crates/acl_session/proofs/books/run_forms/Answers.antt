@@ -1,4 +1,4 @@
-use Rattle.std.specs.Prelude.{◌≡◌, ◌+◌, ◌-◌, ◌<◌, suc, ℕ, length, Option, Some, None, Ok, Err, refl}
+use Rattle.std.specs.Prelude.{◌+◌, ◌-◌, ◌<◌, length, Some, None, Ok}
 use Rattle.std.proofs.Common.{sym, ap, ◌∙◌, subst, arith, rules}
 use Rattle.model_symbols.specs.Symbols.{Table}
 use Rattle.model_symbols.specs.Growth.{Extends}
@@ -10,7 +10,7 @@ use Rattle.model_output.specs.Output.{answers, no_totals, ended, faulty, cause_n
 use Rattle.acl_forms.specs.Forms.{form_at}
 use Rattle.acl_read.specs.Reading.{unread, offset_of, Takes}
 use Rattle.acl_answers.specs.Views.{session_view}
-use Rattle.acl_session.specs.Runs.{Writing, totals_view, counted_by}
+use Rattle.acl_session.specs.Runs.{Writing, totals_view}
 use Rattle.acl_session.proofs.OutputLemmas.{writing_start, writing_as, writing_line, writing_cut, counts}
 use Rattle.acl_session.proofs.BookLemmas.{turn_form, turn_end, turn_fault, left_first, calls_most}
 use Rattle.acl_session.proofs.books.run_forms.Goals as goal
