@@ -1,5 +1,5 @@
 -- Core forms: what expansion leaves of a form. Names and functions are the numbers of their symbols.
-use Rattle.std.specs.Prelude.{ℕ, ◌+◌, List, [], ◌∷◌, Option, Some, None}
+use Rattle.std.specs.Prelude.{ℕ, ◌+◌, List, [], ◌∷◌, Option, Some, None, option_map}
 use Rattle.model_objects.specs.Object.{Object}
 
 mutual
@@ -36,15 +36,7 @@ count (more f fs) = 1 + count fs
 -- the name of a variable
 abbrev pub variable : Core → Option ℕ
 variable (Var x) = Some x
-variable (Const o) = None
-variable (If a b c) = None
-variable (Let names bound body) = None
-variable (Mv parts) = None
-variable (MvLet names bound body) = None
-variable (StobjLet names bound vars producer consumer) = None
-variable (WithLocal object names producer body) = None
-variable (MustBeEqual logic exec) = None
-variable (Call f actuals) = None
+variable f = None
 
 -- what a `STOBJ-LET` binds to a child: the child's accessor, the index in an array of children, and the variable of the parent
 pub record Reached : Type 0 where
@@ -52,25 +44,17 @@ pub record Reached : Type 0 where
   pub index : Option Core
   pub parent : ℕ
 
-abbrev pub reached_at : ℕ → Option Core → Option ℕ → Option Reached
-reached_at f index None = None
-reached_at f index (Some p) = Some (record { accessor = f; index = index; parent = p })
+-- an accessor with its index and the variable of a parent
+abbrev pub reached_from : ℕ → Option Core → Core → Option Reached
+reached_from f index parent = option_map (λ p. record { accessor = f; index = index; parent = p }) (variable parent)
 
 -- (f p) or (f index p), p a variable
 abbrev pub reached_by : ℕ → Cores → Option Reached
 reached_by f none = None
-reached_by f (more a none) = reached_at f None (variable a)
-reached_by f (more a (more b none)) = reached_at f (Some a) (variable b)
+reached_by f (more p none) = reached_from f None p
+reached_by f (more index (more p none)) = reached_from f (Some index) p
 reached_by f (more a (more b (more c rest))) = None
 
 abbrev pub reached : Core → Option Reached
-reached (Var x) = None
-reached (Const o) = None
-reached (If a b c) = None
-reached (Let names bound body) = None
-reached (Mv parts) = None
-reached (MvLet names bound body) = None
-reached (StobjLet names bound vars producer consumer) = None
-reached (WithLocal object names producer body) = None
-reached (MustBeEqual logic exec) = None
 reached (Call f actuals) = reached_by f actuals
+reached f = None
