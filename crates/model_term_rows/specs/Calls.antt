@@ -49,7 +49,7 @@ kept_back =
     expression [] (call create_st []) (fault S12 [])
     -- (create-gate)
     ∷ expression [] (call create_gate []) (fault S12 [])
-    -- (kid box)
+    -- (kid-of box)
     ∷ expression [] (call get_kid (var box ∷ [])) (fault S12 [])
     -- (ki 0 par)
     ∷ expression [] (call ki (number 0 ∷ var par ∷ [])) (fault S12 [])

@@ -24,9 +24,9 @@ accepted_children =
     ∷ body (of_object par ∷ []) (StobjLet (kid ∷ kid2 ∷ []) (cores (call ki (number 1 ∷ var par ∷ []) ∷ call mi (number 1 ∷ var par ∷ []) ∷ [])) (kid ∷ []) (var kid) (var par)) (Stobj par ∷ []) holds
     -- (stobj-let ((kid (ki 0 par2))) (kid) kid par2) where (par2) is expected
     ∷ body (of_object par2 ∷ []) (StobjLet (kid ∷ []) (cores (call ki (number 0 ∷ var par2 ∷ []) ∷ [])) (kid ∷ []) (var kid) (var par2)) (Stobj par2 ∷ []) holds
-    -- (stobj-let ((kid (kid box))) (kid) (update-val 1 kid) box) where (box) is expected
+    -- (stobj-let ((kid (kid-of box))) (kid) (update-val 1 kid) box) where (box) is expected
     ∷ body (of_object box ∷ []) (StobjLet (kid ∷ []) (cores (call get_kid (var box ∷ []) ∷ [])) (kid ∷ []) (call update_val (number 1 ∷ var kid ∷ [])) (var box)) (Stobj box ∷ []) holds
-    -- (stobj-let ((kid2 (kid box))) (kid2 v) (mv kid2 5) (mv v box)) where (one value box) is expected
+    -- (stobj-let ((kid2 (kid-of box))) (kid2 v) (mv kid2 5) (mv v box)) where (one value box) is expected
     ∷ body (of_object box ∷ []) (StobjLet (kid2 ∷ []) (cores (call get_kid (var box ∷ []) ∷ [])) (kid2 ∷ v ∷ []) (Mv (cores (var kid2 ∷ number 5 ∷ []))) (Mv (cores (var v ∷ var box ∷ [])))) (o ∷ Stobj box ∷ []) holds
     -- (if 1 (stobj-let ((kid (ki 0 par))) (kid) kid par) (update-n 1 par))
     ∷ expression [] (If (number 1) (StobjLet (kid ∷ []) (cores (call ki (number 0 ∷ var par ∷ []) ∷ [])) (kid ∷ []) (var kid) (var par)) (call update_n (number 1 ∷ var par ∷ []))) holds
@@ -47,9 +47,9 @@ refused_children =
     ∷ body [] (StobjLet (kid ∷ []) (cores (call ki (number 0 ∷ var par ∷ []) ∷ [])) (v ∷ []) (call val (var kid ∷ [])) (var v)) (o ∷ []) (fault S13 [])
     -- (stobj-let ((kid (ki 0 box))) (kid) kid box) where (box) is expected
     ∷ body (of_object box ∷ []) (StobjLet (kid ∷ []) (cores (call ki (number 0 ∷ var box ∷ []) ∷ [])) (kid ∷ []) (var kid) (var box)) (Stobj box ∷ []) (fault S13 [])
-    -- (stobj-let ((kid (kid par))) (kid) kid par) where (par) is expected
+    -- (stobj-let ((kid (kid-of par))) (kid) kid par) where (par) is expected
     ∷ body (of_object par ∷ []) (StobjLet (kid ∷ []) (cores (call get_kid (var par ∷ []) ∷ [])) (kid ∷ []) (var kid) (var par)) (Stobj par ∷ []) (fault S13 [])
-    -- (stobj-let ((kid (kid 0 box))) (kid) kid box) where (box) is expected
+    -- (stobj-let ((kid (kid-of 0 box))) (kid) kid box) where (box) is expected
     ∷ body (of_object box ∷ []) (StobjLet (kid ∷ []) (cores (call get_kid (number 0 ∷ var box ∷ []) ∷ [])) (kid ∷ []) (var kid) (var box)) (Stobj box ∷ []) (fault S13 [])
     -- (stobj-let ((kid (ki par))) (kid) kid par) where (par) is expected
     ∷ body (of_object par ∷ []) (StobjLet (kid ∷ []) (cores (call ki (var par ∷ []) ∷ [])) (kid ∷ []) (var kid) (var par)) (Stobj par ∷ []) (fault S13 [])
@@ -65,7 +65,7 @@ refused_children =
     ∷ body (of_object par ∷ []) (StobjLet (kid ∷ kid2 ∷ []) (cores (call ki (number 1 ∷ var par ∷ []) ∷ call ki (number 1 ∷ var par ∷ []) ∷ [])) (kid ∷ []) (var kid) (var par)) (Stobj par ∷ []) (fault S13 [])
     -- (stobj-let ((kid (ki 1 par)) (kid2 (ki2 1 par))) (kid) kid par) where (par) is expected
     ∷ body (of_object par ∷ []) (StobjLet (kid ∷ kid2 ∷ []) (cores (call ki (number 1 ∷ var par ∷ []) ∷ call ki2 (number 1 ∷ var par ∷ []) ∷ [])) (kid ∷ []) (var kid) (var par)) (Stobj par ∷ []) (fault S13 [])
-    -- (stobj-let ((kid (kid box)) (kid2 (kid box))) (kid) kid box) where (box) is expected
+    -- (stobj-let ((kid (kid-of box)) (kid2 (kid-of box))) (kid) kid box) where (box) is expected
     ∷ body (of_object box ∷ []) (StobjLet (kid ∷ kid2 ∷ []) (cores (call get_kid (var box ∷ []) ∷ call get_kid (var box ∷ []) ∷ [])) (kid ∷ []) (var kid) (var box)) (Stobj box ∷ []) (fault S13 [])
     ∷ []
 

@@ -62,7 +62,7 @@ head_fault w n m = if s10_fails w m.formals m.stobjs then Some (record { rule = 
 abbrev pub function_fault : World → ℕ → Member → List Out → Option Fault
 function_fault w n m outs =
     option_or (head_fault w n m)
-      (option_or (at (n ∷ 0 ∷ []) (first_fault w Executable (formal_scope w m) m.guard one_ordinary)) (at (n ∷ 1 ∷ []) (first_fault w Executable (formal_scope w m) m.body outs)))
+    (option_or (at (n ∷ 0 ∷ []) (first_fault w Executable (formal_scope w m) m.guard one_ordinary)) (at (n ∷ 1 ∷ []) (first_fault w Executable (formal_scope w m) m.body outs)))
 
 abbrev pub ordinary_scope : List ℕ → Scope
 ordinary_scope names = map (λ x. record { name = x; kind = Ordinary }) names

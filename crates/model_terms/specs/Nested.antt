@@ -148,4 +148,4 @@ unfoldable pub with_local_holds : World → Scope → List Out → ℕ → List 
 with_local_holds w scope expected object names producer =
     is_object_name w object
     && (has names object
-      && (objects_expected (name_kinds w (other_names object names)) expected && same_kinds (outs w (local_scope w scope object) producer) (name_kinds w names)))
+    && (objects_expected (name_kinds w (other_names object names)) expected && same_kinds (outs w (local_scope w scope object) producer) (name_kinds w names)))

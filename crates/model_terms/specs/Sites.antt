@@ -91,8 +91,8 @@ unfoldable mutual
   below_actuals w scope ins k none = []
   below_actuals w scope ins k (more f fs) =
       map (down k)
-        (here f scope (formal_object (first_kind ins)) (actual_kind (first_kind ins) (variable f) ∷ [])
-          ∷ below w scope f (actual_kind (first_kind ins) (variable f) ∷ []))
+      (here f scope (formal_object (first_kind ins)) (actual_kind (first_kind ins) (variable f) ∷ [])
+      ∷ below w scope f (actual_kind (first_kind ins) (variable f) ∷ []))
       ++ below_actuals w scope (other_kinds ins) (k + 1) fs
 
 -- all places of a form, from its root

@@ -1,0 +1,4 @@
+pub mod ClassLemmas
+pub mod InstanceLemmas
+pub mod FirstLemmas
+pub mod GrowthLemmas

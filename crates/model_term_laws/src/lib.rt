@@ -1,0 +1,34 @@
+//! Laws of congruence, of instances, of outputs by text and of the first fault.
+#![tactic(auto)]
+
+ghost use Rattle.model_term_laws.specs.Laws.{IsEquivalence, IsAlone, IsInstance, FindsFirst, KeepsOutputs};
+
+/// Congruence parts the objects into classes.
+#[tactic(auto, using(crate::proofs::ClassLemmas::is_equivalence))]
+pub fn congruence_is_an_equivalence()
+    ensures { IsEquivalence }
+{}
+
+/// An abstract object is congruent to no other.
+#[tactic(auto, using(crate::proofs::ClassLemmas::is_alone))]
+pub fn abstract_objects_are_alone()
+    ensures { IsAlone }
+{}
+
+/// An instance renames the object formals of a signature to the actuals.
+#[tactic(auto, using(crate::proofs::InstanceLemmas::is_instance))]
+pub fn instances_rename()
+    ensures { IsInstance }
+{}
+
+/// The fault that is named is the first.
+#[tactic(auto, using(crate::proofs::FirstLemmas::finds_first))]
+pub fn first_fault_is_first()
+    ensures { FindsFirst }
+{}
+
+/// New definitions leave the outputs of a form as they were.
+#[tactic(auto, using(crate::proofs::GrowthLemmas::keeps_outputs))]
+pub fn growth_keeps_outputs()
+    ensures { KeepsOutputs }
+{}
