@@ -3,7 +3,8 @@
 -- are congruent, with an array of three kids (k), an array of two kids (m) and a scalar (n); box has one kid; gate is an abstract
 -- object over st.
 use Rattle.std.specs.Prelude.{ℕ, List, [], ◌∷◌, pos, Bool, true, false, Some, None, codes}
-use Rattle.model_objects.specs.Object.{Integer, Symbol}
+use Rattle.model_objects.specs.Object.{Object, Integer, Symbol}
+use Rattle.model_symbols.specs.Opening.{truth, nil}
 use Rattle.model_prims.specs.Rows.{lisp}
 use Rattle.model_prims.specs.declared.prim.Prim.TheVariants.{Listing}
 use Rattle.model_prims.specs.declared.prim.Listing.TheVariants as listing
@@ -159,9 +160,12 @@ var n = Var n
 abbrev pub number : ℕ → Core
 number n = Const (Integer (pos n))
 
--- the symbol `NIL`
+-- `NIL`
+abbrev pub null_object : Object ℕ
+null_object = Symbol nil
+
 abbrev pub null : Core
-null = Const (Symbol 1)
+null = Const null_object
 
 abbrev pub call : ℕ → List Core → Core
 call f actuals = Call f (cores actuals)
@@ -188,7 +192,7 @@ abbrev pub field : ℕ → Shape → Field
 field name shape = record { name = name; shape = shape; made = [] }
 
 abbrev pub scalar : Shape
-scalar = Scalar (Symbol 0) (Symbol 1)
+scalar = Scalar (Symbol truth) null_object
 
 abbrev pub object : ℕ → ℕ → List Field → Definition
 object name class fields = Concrete (record { name = name; recognizer = 0; creator = 0; fields = fields; congruent_to = None }) class

@@ -6,3 +6,4 @@ pub mod Bindings
 pub mod Children
 pub mod Locals
 pub mod Modes
+pub mod Cliques

@@ -8,6 +8,7 @@ ghost use Rattle.model_term_rows.specs.Bindings.{lets, several_values};
 ghost use Rattle.model_term_rows.specs.Children.{accepted_children, refused_children, refused_parts};
 ghost use Rattle.model_term_rows.specs.Locals.{local_objects};
 ghost use Rattle.model_term_rows.specs.Modes.{macros, functions_that_do_not_run};
+ghost use Rattle.model_term_rows.specs.Cliques.{AreAdmitted, rounds_examples, head_examples, unrunnable_examples, AreMacros, macro_examples, AreConstants, AreOutputs};
 
 #[tactic(auto, using(crate::proofs::Computed::object_positions_are_right))]
 pub fn object_positions()
@@ -67,4 +68,34 @@ pub fn macros()
 #[tactic(auto, using(crate::proofs::Computed::functions_that_do_not_run_are_right))]
 pub fn functions_that_do_not_run()
     ensures { AreRight functions_that_do_not_run }
+{}
+
+#[tactic(auto, using(crate::proofs::ComputedCliques::rounds_are_right))]
+pub fn rounds()
+    ensures { AreAdmitted rounds_examples }
+{}
+
+#[tactic(auto, using(crate::proofs::ComputedCliques::heads_are_right))]
+pub fn heads()
+    ensures { AreAdmitted head_examples }
+{}
+
+#[tactic(auto, using(crate::proofs::ComputedCliques::unrunnable_are_right))]
+pub fn beside_functions_that_do_not_run()
+    ensures { AreAdmitted unrunnable_examples }
+{}
+
+#[tactic(auto, using(crate::proofs::ComputedCliques::macros_are_right))]
+pub fn whole_macros()
+    ensures { AreMacros macro_examples }
+{}
+
+#[tactic(auto, using(crate::proofs::ComputedCliques::constants_are_right))]
+pub fn constants()
+    ensures { AreConstants }
+{}
+
+#[tactic(auto, using(crate::proofs::ComputedCliques::outputs_are_right))]
+pub fn outputs()
+    ensures { AreOutputs }
 {}
