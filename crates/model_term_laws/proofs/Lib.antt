@@ -2,3 +2,4 @@ pub mod ClassLemmas
 pub mod InstanceLemmas
 pub mod FirstLemmas
 pub mod GrowthLemmas
+pub mod RoundLemmas

@@ -8,6 +8,7 @@ use Rattle.model_terms.specs.Cores.{Core}
 use Rattle.model_terms.specs.Worlds.{World, Concrete, Abstract, Descriptor, AbstractDescriptor, Out, Signature, Scope, definition}
 use Rattle.model_terms.specs.Classes.{is_object_name, congruent, objects, repeats, all_congruent, renamed_out, instance_of}
 use Rattle.model_terms.specs.Outputs.{Known, signature_of, outputs}
+use Rattle.model_terms.specs.Rounds.{Member, round, known_at_last}
 use Rattle.model_terms.specs.Sites.{Placed, sites}
 use Rattle.model_terms.specs.Rules.{fails}
 use Rattle.model_terms.specs.Faults.{Fault, first_fault}
@@ -93,3 +94,9 @@ NamesObjects w known = (f : ℕ) (s : Signature) → signature_of w known f ≡ 
 pub record KeepsOutputs : Type 0 where
   pub kept : (w new : World) (known : Known) (scope : Scope) (f : Core) → NamesObjects w known → Names (λ x. definition new x ≡ None) f
       → outputs (w ++ new) known scope f ≡ outputs w known scope f
+
+-- ---- cliques
+
+-- once there were as many rounds as functions, a further round changes nothing
+pub record Settles : Type 0 where
+  pub settled : (w : World) (ms : List Member) → round w ms (known_at_last w ms) ≡ known_at_last w ms

@@ -1,7 +1,7 @@
 //! Laws of congruence, of instances, of outputs by text and of the first fault.
 #![tactic(auto)]
 
-ghost use Rattle.model_term_laws.specs.Laws.{IsEquivalence, IsAlone, IsInstance, FindsFirst, KeepsOutputs};
+ghost use Rattle.model_term_laws.specs.Laws.{IsEquivalence, IsAlone, IsInstance, FindsFirst, KeepsOutputs, Settles};
 
 /// Congruence parts the objects into classes.
 #[tactic(auto, using(crate::proofs::ClassLemmas::is_equivalence))]
@@ -31,4 +31,10 @@ pub fn first_fault_is_first()
 #[tactic(auto, using(crate::proofs::GrowthLemmas::keeps_outputs))]
 pub fn growth_keeps_outputs()
     ensures { KeepsOutputs }
+{}
+
+/// Rounds end.
+#[tactic(auto, using(crate::proofs::RoundLemmas::settles))]
+pub fn rounds_settle()
+    ensures { Settles }
 {}
