@@ -3,3 +3,4 @@ pub mod InstanceLemmas
 pub mod FirstLemmas
 pub mod GrowthLemmas
 pub mod RoundLemmas
+pub mod ExpectedLemmas

@@ -1,13 +1,14 @@
 -- What is said of classes, instances, outputs by text and the first fault, as laws.
-use Rattle.std.specs.Prelude.{◌≡◌, ◌↔◌, ℕ, ◌<◌, List, ◌∷◌, ◌++◌, map, true, false, ◌&&◌, not, Some, None}
+use Rattle.std.specs.Prelude.{◌≡◌, ◌≢◌, ◌↔◌, ℕ, ◌<◌, List, ◌∷◌, ◌++◌, map, true, false, ◌&&◌, not, Some, None}
 use Rattle.std.specs.List.{AllByRecursion, zip}
 use Rattle.model_terms.specs.declared.rule.Rule.{Rule}
 use Rattle.model_terms.specs.declared.rule.Rule.TheVariants.{S1, S2, S3, S4, S5, S6, S7, S8, S9, S10, S11, S12, S13, S14, S15, S16}
 use Rattle.model_terms.specs.declared.rule.Mode.{Mode}
+use Rattle.model_terms.specs.declared.rule.Mode.TheVariants.{Logic}
 use Rattle.model_terms.specs.Cores.{Core}
 use Rattle.model_terms.specs.Worlds.{World, Concrete, Abstract, Descriptor, AbstractDescriptor, Out, Signature, Scope, definition}
 use Rattle.model_terms.specs.Classes.{is_object_name, congruent, objects, repeats, all_congruent, renamed_out, instance_of}
-use Rattle.model_terms.specs.Outputs.{Known, signature_of, outputs}
+use Rattle.model_terms.specs.Outputs.{Known, signature_of, outputs, outs}
 use Rattle.model_terms.specs.Rounds.{Member, round, known_at_last}
 use Rattle.model_terms.specs.Sites.{Placed, sites}
 use Rattle.model_terms.specs.Rules.{fails}
@@ -100,3 +101,9 @@ pub record KeepsOutputs : Type 0 where
 -- once there were as many rounds as functions, a further round changes nothing
 pub record Settles : Type 0 where
   pub settled : (w : World) (ms : List Member) → round w ms (known_at_last w ms) ≡ known_at_last w ms
+
+-- ---- what the rules are for
+
+-- a form in which no rule fails gives the outputs that are expected of it
+pub record GivesExpected : Type 0 where
+  pub given : (w : World) (mode : Mode) (scope : Scope) (f : Core) (expected : List Out) → mode ≢ Logic → first_fault w mode scope f expected ≡ None → outs w scope f ≡ expected

@@ -1,7 +1,7 @@
 //! Laws of congruence, of instances, of outputs by text and of the first fault.
 #![tactic(auto)]
 
-ghost use Rattle.model_term_laws.specs.Laws.{IsEquivalence, IsAlone, IsInstance, FindsFirst, KeepsOutputs, Settles};
+ghost use Rattle.model_term_laws.specs.Laws.{IsEquivalence, IsAlone, IsInstance, FindsFirst, KeepsOutputs, Settles, GivesExpected};
 
 /// Congruence parts the objects into classes.
 #[tactic(auto, using(crate::proofs::ClassLemmas::is_equivalence))]
@@ -37,4 +37,10 @@ pub fn growth_keeps_outputs()
 #[tactic(auto, using(crate::proofs::RoundLemmas::settles))]
 pub fn rounds_settle()
     ensures { Settles }
+{}
+
+/// What is accepted gives what is expected.
+#[tactic(auto, using(crate::proofs::ExpectedLemmas::gives_expected))]
+pub fn accepted_forms_give_what_is_expected()
+    ensures { GivesExpected }
 {}
