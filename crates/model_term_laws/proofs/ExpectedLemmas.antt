@@ -1,10 +1,9 @@
 -- A form in which no rule fails gives the expected outputs.
-use Rattle.std.proofs.Common.{◌≡◌, ℕ, ◌+◌, List, [], ◌∷◌, ◌++◌, length, refl, ap, sym, ◌∙◌, subst, arith}
+use Rattle.std.proofs.Common.{◌≡◌, ℕ, ◌+◌, List, [], ◌∷◌, ◌++◌, length, refl, ap, arith}
 use Rattle.std.specs.Prelude.{Option, Some, None, Bool, true, false, ◌&&◌, ◌||◌, not, ◌≢◌, nat_eq, map, unwrap_or}
 use Rattle.std.specs.Option.{option_or, option_map_or}
 use Rattle.std.specs.List.{AllByRecursion}
 use Rattle.std.proofs.lemmas.Bool.{eqb-true}
-use Rattle.model_terms.specs.declared.rule.Rule.{Rule}
 use Rattle.model_terms.specs.declared.rule.Rule.TheVariants.{S3, S8, S9}
 use Rattle.model_terms.specs.declared.rule.Mode.{Mode}
 use Rattle.model_terms.specs.declared.rule.Mode.TheVariants.{Executable, Logic, Macro}
@@ -13,10 +12,9 @@ use Rattle.model_terms.specs.Worlds.{World, Out, Ordinary, Stobj, Scope}
 use Rattle.model_terms.specs.Classes.{objects, repeats}
 use Rattle.model_terms.specs.Scopes.{kind_of, name_kinds, binding, producer_scope, consumer_scope, local_scope, body_scope}
 use Rattle.model_terms.specs.Outputs.{outputs, outs, part_kinds}
-use Rattle.model_terms.specs.Sites.{Site, Placed, down, here, below, below_parts, one_ordinary, first_kind, other_kinds, parent_in, sites}
+use Rattle.model_terms.specs.Sites.{Placed, down, here, below, below_parts, one_ordinary, parent_in}
 use Rattle.model_terms.specs.Nested.{same_kind, same_kinds}
-use Rattle.model_terms.specs.Rules.{is_misplaced, is_wrong_part, any_wrong_part, mv_fails, rule_fails, fails}
-use Rattle.model_terms.specs.Faults.{first_in, first_fault}
+use Rattle.model_terms.specs.Rules.{is_misplaced, is_wrong_part, any_wrong_part, rule_fails}
 use Rattle.model_term_laws.specs.Laws.{AllHold, GivesExpected}
 use Rattle.model_term_laws.proofs.FirstLemmas.{finds_first}
 
@@ -119,6 +117,7 @@ Three w p = (rule_fails w S3 p.site ≡ false) × (rule_fails w S8 p.site ≡ fa
 
 mutual
   unfolding outputs below
+
   gives : (w : World) (mode : Mode) (scope : Scope) (f : Core) (formal : Option ℕ) (expected : List Out) → mode ≢ Logic → Accepted w mode scope f formal expected → outs w scope f ≡ expected
   gives w mode scope (Var x) formal expected n all =
       let rules : Three w (here (Var x) scope formal expected) = holds_at w mode (here (Var x) scope formal expected) n all.0 in
@@ -132,7 +131,7 @@ mutual
       either_branch (outputs w [] scope b) (outputs w [] scope c) expected (gives w mode scope b None expected n branch.0) (gives w mode scope c None expected n (last_child w mode 2 scope c expected branch.1))
   gives w mode scope (Let names bound body) formal expected n all =
       let both : Hold w mode (below_parts w scope (name_kinds w names) 0 bound) × Hold w mode (child w (count bound) (binding w scope names) body expected)
-          = all_both w mode (below_parts w scope (name_kinds w names) 0 bound) (child w (count bound) (binding w scope names) body expected) all.1 in
+      = all_both w mode (below_parts w scope (name_kinds w names) 0 bound) (child w (count bound) (binding w scope names) body expected) all.1 in
       gives w mode (binding w scope names) body None expected n (last_child w mode (count bound) (binding w scope names) body expected both.1)
   gives w mode scope (Mv parts) formal expected n all =
       let rules : Three w (here (Mv parts) scope formal expected) = holds_at w mode (here (Mv parts) scope formal expected) n all.0 in
@@ -141,15 +140,15 @@ mutual
       parts_give w mode scope expected 0 parts n (eqb-true (count parts) (length expected) (not_false (nat_eq (count parts) (length expected)) counted.0)) right.0 all.1
   gives w mode scope (MvLet names bound body) formal expected n all =
       let both : Accepted w mode scope bound None (name_kinds w names) × Hold w mode (child w 1 (binding w scope names) body expected)
-          = first_child w mode 0 scope bound (name_kinds w names) (child w 1 (binding w scope names) body expected) all.1 in
+      = first_child w mode 0 scope bound (name_kinds w names) (child w 1 (binding w scope names) body expected) all.1 in
       gives w mode (binding w scope names) body None expected n (last_child w mode 1 (binding w scope names) body expected both.1)
   gives w mode scope (StobjLet names bound vars producer consumer) formal expected n all =
       let both : Accepted w mode (producer_scope w scope (parent_in bound) names) producer None (name_kinds w vars) × Hold w mode (child w 1 (consumer_scope w scope names vars) consumer expected)
-          = first_child w mode 0 (producer_scope w scope (parent_in bound) names) producer (name_kinds w vars) (child w 1 (consumer_scope w scope names vars) consumer expected) all.1 in
+      = first_child w mode 0 (producer_scope w scope (parent_in bound) names) producer (name_kinds w vars) (child w 1 (consumer_scope w scope names vars) consumer expected) all.1 in
       gives w mode (consumer_scope w scope names vars) consumer None expected n (last_child w mode 1 (consumer_scope w scope names vars) consumer expected both.1)
   gives w mode scope (WithLocal object names producer body) formal expected n all =
       let both : Accepted w mode (local_scope w scope object) producer None (name_kinds w names) × Hold w mode (child w 1 (body_scope w scope object names) body expected)
-          = first_child w mode 0 (local_scope w scope object) producer (name_kinds w names) (child w 1 (body_scope w scope object names) body expected) all.1 in
+      = first_child w mode 0 (local_scope w scope object) producer (name_kinds w names) (child w 1 (body_scope w scope object names) body expected) all.1 in
       gives w mode (body_scope w scope object names) body None expected n (last_child w mode 1 (body_scope w scope object names) body expected both.1)
   gives w mode scope (MustBeEqual logic exec) formal expected n all =
       let both : Accepted w mode scope logic None expected × Hold w mode (child w 1 scope exec expected) = first_child w mode 0 scope logic expected (child w 1 scope exec expected) all.1 in

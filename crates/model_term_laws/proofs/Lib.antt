@@ -4,3 +4,4 @@ pub mod FirstLemmas
 pub mod GrowthLemmas
 pub mod RoundLemmas
 pub mod ExpectedLemmas
+pub mod PlaceLemmas

@@ -1,12 +1,12 @@
 -- A round that changes anything makes one more function known.
-use Rattle.std.proofs.Common.{◌≡◌, ℕ, zero, suc, ◌+◌, ◌<◌, ◌≤◌, List, [], ◌∷◌, ◌++◌, length, refl, ap, sym, ◌∙◌, subst, arith}
-use Rattle.std.specs.Prelude.{Option, Some, None, Bool, true, false, nat_eq, is_some, option_map, if◌then◌else◌}
+use Rattle.std.proofs.Common.{◌≡◌, ℕ, zero, suc, ◌+◌, ◌<◌, ◌≤◌, List, [], ◌∷◌, ◌++◌, length, refl, ap, sym, ◌∙◌, arith}
+use Rattle.std.specs.Prelude.{Option, Some, None, Bool, true, false, nat_eq, is_some, if◌then◌else◌}
 use Rattle.std.specs.List.{AllByRecursion, filter_map}
 use Rattle.std.specs.Map.{lookup}
 use Rattle.std.proofs.lemmas.Bool.{eq-eqb}
 use Rattle.model_terms.specs.Worlds.{World, Out, Signature}
 use Rattle.model_terms.specs.Outputs.{Known, outputs}
-use Rattle.model_terms.specs.Rounds.{Member, formal_scope, signed, learned, round, rounds, known_at_last}
+use Rattle.model_terms.specs.Rounds.{Member, formal_scope, signed, learned, round, rounds}
 use Rattle.model_term_laws.specs.Laws.{Settles}
 
 knows : Known → ℕ → Bool

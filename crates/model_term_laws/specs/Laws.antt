@@ -1,11 +1,15 @@
 -- What is said of classes, instances, outputs by text and the first fault, as laws.
 use Rattle.std.specs.Prelude.{◌≡◌, ◌≢◌, ◌↔◌, ℕ, ◌<◌, List, ◌∷◌, ◌++◌, map, true, false, ◌&&◌, not, Some, None}
-use Rattle.std.specs.List.{AllByRecursion, zip}
+use Rattle.std.specs.Ordering.{nat_cmp}
+use Rattle.std.specs.Cmp.Lexicographic.{slice_cmp}
+use Rattle.std.specs.List.{AllByRecursion, Any, zip}
+use Rattle.std.specs.List.Sorted.{IsStrictlySortedBy}
+use Rattle.std.specs.declared.cmp.Ordering.{Ordering}
 use Rattle.model_terms.specs.declared.rule.Rule.{Rule}
 use Rattle.model_terms.specs.declared.rule.Rule.TheVariants.{S1, S2, S3, S4, S5, S6, S7, S8, S9, S10, S11, S12, S13, S14, S15, S16}
 use Rattle.model_terms.specs.declared.rule.Mode.{Mode}
 use Rattle.model_terms.specs.declared.rule.Mode.TheVariants.{Logic}
-use Rattle.model_terms.specs.Cores.{Core}
+use Rattle.model_terms.specs.Cores.{Core, Place, form_at}
 use Rattle.model_terms.specs.Worlds.{World, Concrete, Abstract, Descriptor, AbstractDescriptor, Out, Signature, Scope, definition}
 use Rattle.model_terms.specs.Classes.{is_object_name, congruent, objects, repeats, all_congruent, renamed_out, instance_of}
 use Rattle.model_terms.specs.Outputs.{Known, signature_of, outputs, outs}
@@ -84,6 +88,18 @@ pub record FindsFirst : Type 0 where
       → first_fault w mode scope f expected ≡ Some fault → IsFirst w mode (sites w scope f expected) fault
   pub missing : (w : World) (mode : Mode) (scope : Scope) (f : Core) (expected : List Out)
       → (first_fault w mode scope f expected ≡ None) ↔ AllByRecursion (AllHold w mode) (sites w scope f expected)
+
+-- ---- places
+
+-- places in the order of text: a form comes before its children, and these in the order of their numbers
+abbrev pub place_cmp : Placed → Placed → Ordering
+place_cmp p q = slice_cmp nat_cmp p.place q.place
+
+-- the sites of a form are its places, each once and in order, with the forms that stand there
+pub record ArePlaces : Type 0 where
+  pub stand : (w : World) (scope : Scope) (f : Core) (expected : List Out) → AllByRecursion (λ (p : Placed). form_at f p.place ≡ Some p.site.form) (sites w scope f expected)
+  pub each : (w : World) (scope : Scope) (f g : Core) (expected : List Out) (place : Place) → form_at f place ≡ Some g → Any (λ (p : Placed). place ≡ p.place) (sites w scope f expected)
+  pub order : (w : World) (scope : Scope) (f : Core) (expected : List Out) → IsStrictlySortedBy place_cmp (sites w scope f expected)
 
 -- ---- growth
 

@@ -1,7 +1,7 @@
 //! Laws of congruence, of instances, of outputs by text and of the first fault.
 #![tactic(auto)]
 
-ghost use Rattle.model_term_laws.specs.Laws.{IsEquivalence, IsAlone, IsInstance, FindsFirst, KeepsOutputs, Settles, GivesExpected};
+ghost use Rattle.model_term_laws.specs.Laws.{IsEquivalence, IsAlone, IsInstance, ArePlaces, FindsFirst, KeepsOutputs, Settles, GivesExpected};
 
 /// Congruence parts the objects into classes.
 #[tactic(auto, using(crate::proofs::ClassLemmas::is_equivalence))]
@@ -19,6 +19,12 @@ pub fn abstract_objects_are_alone()
 #[tactic(auto, using(crate::proofs::InstanceLemmas::is_instance))]
 pub fn instances_rename()
     ensures { IsInstance }
+{}
+
+/// Every place of a form is looked at once, in the order of text.
+#[tactic(auto, using(crate::proofs::PlaceLemmas::are_places))]
+pub fn sites_are_places()
+    ensures { ArePlaces }
 {}
 
 /// The fault that is named is the first.
