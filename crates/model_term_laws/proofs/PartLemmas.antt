@@ -7,7 +7,7 @@ use Rattle.model_terms.specs.declared.rule.Mode.{Mode}
 use Rattle.model_terms.specs.Cores.{Core, Cores, none, more, Var, Const, If, Let, Mv, MvLet, StobjLet, WithLocal, MustBeEqual, Call, Place, count}
 use Rattle.model_terms.specs.Worlds.{World, Out, Scope}
 use Rattle.model_terms.specs.Scopes.{name_kinds, binding, producer_scope, consumer_scope, local_scope, body_scope}
-use Rattle.model_terms.specs.Sites.{Placed, down, here, child, below, below_parts, below_actuals, one_ordinary, first_kind, other_kinds, ins_of, formal_object, actual_expected, parent_in}
+use Rattle.model_terms.specs.Sites.{Placed, down, here, child, below, below_parts, below_actuals, one_ordinary, first_kind, other_kinds, formal_object, actual_expected, parent_in}
 use Rattle.model_terms.specs.Faults.{Fault, first_rule, fault_at, first_in, first_at}
 use Rattle.model_term_laws.specs.Parts.{fault_down, own_fault, child_fault, parts_fault, actuals_fault, faults_below, GoesDown}
 
@@ -55,7 +55,7 @@ below_is w mode scope (Const o) expected = refl
 below_is w mode scope (If a b c) expected =
     child_then w mode 0 scope a None one_ordinary (child 1 b scope expected (below w scope b expected) ++ child 2 c scope expected (below w scope c expected))
     ∙ ap (option_or (child_fault w mode 0 scope a one_ordinary))
-      (child_then w mode 1 scope b None expected (child 2 c scope expected (below w scope c expected)) ∙ ap (option_or (child_fault w mode 1 scope b expected)) (last_child w mode 2 scope c expected))
+    (child_then w mode 1 scope b None expected (child 2 c scope expected (below w scope c expected)) ∙ ap (option_or (child_fault w mode 1 scope b expected)) (last_child w mode 2 scope c expected))
 below_is w mode scope (Let names bound body) expected =
     first_both w mode (below_parts w scope (name_kinds w names) 0 bound) (child (count bound) body (binding w scope names) expected (below w (binding w scope names) body expected))
     ∙ ap (option_or (parts_fault w mode scope (name_kinds w names) 0 bound)) (last_child w mode (count bound) (binding w scope names) body expected)
@@ -94,7 +94,7 @@ no_actual w mode scope ins k = refl
 
 first_actual : (w : World) (mode : Mode) (scope : Scope) (ins : List Out) (k : ℕ) (f : Core) (fs : Cores)
     → actuals_fault w mode scope ins k (more f fs)
-      ≡ option_or (fault_down k (first_at w mode scope f (formal_object (first_kind ins)) (actual_expected (first_kind ins) f))) (actuals_fault w mode scope (other_kinds ins) (k + 1) fs)
+    ≡ option_or (fault_down k (first_at w mode scope f (formal_object (first_kind ins)) (actual_expected (first_kind ins) f))) (actuals_fault w mode scope (other_kinds ins) (k + 1) fs)
 unfolding actuals_fault below
 first_actual w mode scope ins k f fs =
     child_then w mode k scope f (formal_object (first_kind ins)) (actual_expected (first_kind ins) f) (below_actuals w scope (other_kinds ins) (k + 1) fs)

@@ -1,7 +1,6 @@
 -- The first fault of a form by those of its children: the form's own, else that of the first child that has one.
-use Rattle.std.specs.Prelude.{◌≡◌, ℕ, ◌+◌, List, [], ◌∷◌, Option, Some, None, option_map}
+use Rattle.std.specs.Prelude.{◌≡◌, ℕ, ◌+◌, List, [], ◌∷◌, Option, None, option_map}
 use Rattle.std.specs.Option.{option_or}
-use Rattle.model_objects.specs.Object.{Object}
 use Rattle.model_terms.specs.declared.rule.Mode.{Mode}
 use Rattle.model_terms.specs.Cores.{Core, Cores, none, more, Var, Const, If, Let, Mv, MvLet, StobjLet, WithLocal, MustBeEqual, Call, count}
 use Rattle.model_terms.specs.Worlds.{World, Out, Scope}
@@ -56,4 +55,4 @@ pub record GoesDown : Type 0 where
   pub no_actual : (w : World) (mode : Mode) (scope : Scope) (ins : List Out) (k : ℕ) → actuals_fault w mode scope ins k none ≡ None
   pub first_actual : (w : World) (mode : Mode) (scope : Scope) (ins : List Out) (k : ℕ) (f : Core) (fs : Cores)
       → actuals_fault w mode scope ins k (more f fs)
-        ≡ option_or (fault_down k (first_at w mode scope f (formal_object (first_kind ins)) (actual_expected (first_kind ins) f))) (actuals_fault w mode scope (other_kinds ins) (k + 1) fs)
+      ≡ option_or (fault_down k (first_at w mode scope f (formal_object (first_kind ins)) (actual_expected (first_kind ins) f))) (actuals_fault w mode scope (other_kinds ins) (k + 1) fs)

@@ -1,8 +1,14 @@
 //! Laws of congruence, of instances, of outputs by text and of the first fault.
 #![tactic(auto)]
 
-ghost use Rattle.model_term_laws.specs.Laws.{IsEquivalence, IsAlone, IsInstance, ArePlaces, FindsFirst, KeepsOutputs, Settles, GivesExpected};
+ghost use Rattle.model_term_laws.specs.Laws.{FindsByName, IsEquivalence, IsAlone, IsInstance, ArePlaces, FindsFirst, KeepsOutputs, Settles, GivesExpected};
 ghost use Rattle.model_term_laws.specs.Parts.{GoesDown};
+
+/// A definition is found by its name.
+#[tactic(auto, using(crate::proofs::ClassLemmas::finds_by_name))]
+pub fn definitions_are_found_by_name()
+    ensures { FindsByName }
+{}
 
 /// Congruence parts the objects into classes.
 #[tactic(auto, using(crate::proofs::ClassLemmas::is_equivalence))]
