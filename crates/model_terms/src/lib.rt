@@ -1,0 +1,8 @@
+//! Core forms, worlds, and the rules that keep objects single-threaded: the definitions.
+#![tactic(auto)]
+
+mod role;
+mod rule;
+
+pub use role::{AbstractRole, Role};
+pub use rule::{Mode, Rule};
