@@ -1,0 +1,5 @@
+pub mod Lists
+pub mod Types
+pub mod Layouts
+pub mod Normal
+pub mod Logical
