@@ -3,3 +3,4 @@ pub mod Types
 pub mod Layouts
 pub mod Normal
 pub mod Logical
+pub mod Generated
