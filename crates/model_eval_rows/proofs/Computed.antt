@@ -1,0 +1,24 @@
+-- Each row, by computing.
+use Rattle.std.specs.Prelude.{refl}
+use Rattle.model_prims.specs.Guards.{guard, recognizer_guard, relation_guard, arithmetic_guard, listing_guard, naming_guard}
+use Rattle.model_prims.specs.Values.{wanted, recognized, related, computed, listed, named_by}
+use Rattle.model_prims.specs.Applied.{applied_to, bounded}
+use Rattle.model_lists.specs.Generated.{accessed, changed, lengthened, hash_read, hash_bound, hash_looked_up, hash_put, hash_removed}
+use Rattle.model_eval.specs.Worlds.{layout_within}
+use Rattle.model_eval.specs.Generated.{effect}
+use Rattle.model_eval.specs.Evaluated.{exec_called, called, in_order, all_borrowed, put_back, evaluated}
+use Rattle.model_eval_rows.specs.Books.{AreRight}
+use Rattle.model_eval_rows.specs.Counting.{counting_rows}
+use Rattle.model_eval_rows.specs.Fields.{array_rows, hash_rows}
+
+pub counting : AreRight counting_rows
+unfolding counting_rows guard recognizer_guard relation_guard arithmetic_guard listing_guard naming_guard wanted recognized related computed listed named_by applied_to bounded accessed changed lengthened hash_read hash_bound hash_looked_up hash_put hash_removed layout_within effect exec_called called in_order all_borrowed put_back evaluated
+counting = record { all = refl }
+
+pub arrays : AreRight array_rows
+unfolding array_rows guard recognizer_guard relation_guard arithmetic_guard listing_guard naming_guard wanted recognized related computed listed named_by applied_to bounded accessed changed lengthened hash_read hash_bound hash_looked_up hash_put hash_removed layout_within effect exec_called called in_order all_borrowed put_back evaluated
+arrays = record { all = refl }
+
+pub hash_fields : AreRight hash_rows
+unfolding hash_rows guard recognizer_guard relation_guard arithmetic_guard listing_guard naming_guard wanted recognized related computed listed named_by applied_to bounded accessed changed lengthened hash_read hash_bound hash_looked_up hash_put hash_removed layout_within effect exec_called called in_order all_borrowed put_back evaluated
+hash_fields = record { all = refl }

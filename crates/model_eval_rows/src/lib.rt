@@ -1,0 +1,24 @@
+//! Rows of evaluation: what checked evaluation gives, computed, beside what was worked out by hand.
+#![tactic(auto)]
+
+ghost use Rattle.model_eval_rows.specs.Books.{AreRight};
+ghost use Rattle.model_eval_rows.specs.Counting.{counting_rows};
+ghost use Rattle.model_eval_rows.specs.Fields.{array_rows, hash_rows};
+
+/// Calls and limits, guards, several values, and a local object.
+#[tactic(auto, using(crate::proofs::Computed::counting))]
+pub fn counting()
+    ensures { AreRight counting_rows }
+{}
+
+/// Arrays: indices, types, and lengths that go up and down.
+#[tactic(auto, using(crate::proofs::Computed::arrays))]
+pub fn arrays()
+    ensures { AreRight array_rows }
+{}
+
+/// Hash fields: shadowed keys too.
+#[tactic(auto, using(crate::proofs::Computed::hash_fields))]
+pub fn hash_fields()
+    ensures { AreRight hash_rows }
+{}
