@@ -9,6 +9,8 @@ use Rattle.model_eval.specs.Generated.{effect}
 use Rattle.model_eval.specs.Evaluated.{exec_called, called, in_order, all_borrowed, put_back, evaluated}
 use Rattle.model_eval_rows.specs.Books.{AreRight}
 use Rattle.model_eval_rows.specs.Counting.{counting_rows}
+use Rattle.model_eval_rows.specs.Several.{child_rows, congruent_rows}
+use Rattle.model_eval_rows.specs.Abstract.{abstract_rows}
 use Rattle.model_eval_rows.specs.Fields.{array_rows, hash_rows}
 
 pub counting : AreRight counting_rows
@@ -22,3 +24,15 @@ arrays = record { all = refl }
 pub hash_fields : AreRight hash_rows
 unfolding hash_rows guard recognizer_guard relation_guard arithmetic_guard listing_guard naming_guard wanted recognized related computed listed named_by applied_to bounded accessed changed lengthened hash_read hash_bound hash_looked_up hash_put hash_removed layout_within effect exec_called called in_order all_borrowed put_back evaluated
 hash_fields = record { all = refl }
+
+pub children : AreRight child_rows
+unfolding child_rows guard recognizer_guard relation_guard arithmetic_guard listing_guard naming_guard wanted recognized related computed listed named_by applied_to bounded accessed changed lengthened hash_read hash_bound hash_looked_up hash_put hash_removed layout_within effect exec_called called in_order all_borrowed put_back evaluated
+children = record { all = refl }
+
+pub congruent : AreRight congruent_rows
+unfolding congruent_rows guard recognizer_guard relation_guard arithmetic_guard listing_guard naming_guard wanted recognized related computed listed named_by applied_to bounded accessed changed lengthened hash_read hash_bound hash_looked_up hash_put hash_removed layout_within effect exec_called called in_order all_borrowed put_back evaluated
+congruent = record { all = refl }
+
+pub abstract_objects : AreRight abstract_rows
+unfolding abstract_rows guard recognizer_guard relation_guard arithmetic_guard listing_guard naming_guard wanted recognized related computed listed named_by applied_to bounded accessed changed lengthened hash_read hash_bound hash_looked_up hash_put hash_removed layout_within effect exec_called called in_order all_borrowed put_back evaluated
+abstract_objects = record { all = refl }

@@ -1,3 +1,5 @@
 pub mod Books
 pub mod Counting
 pub mod Fields
+pub mod Several
+pub mod Abstract

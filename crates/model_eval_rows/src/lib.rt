@@ -3,6 +3,8 @@
 
 ghost use Rattle.model_eval_rows.specs.Books.{AreRight};
 ghost use Rattle.model_eval_rows.specs.Counting.{counting_rows};
+ghost use Rattle.model_eval_rows.specs.Several.{child_rows, congruent_rows};
+ghost use Rattle.model_eval_rows.specs.Abstract.{abstract_rows};
 ghost use Rattle.model_eval_rows.specs.Fields.{array_rows, hash_rows};
 
 /// Calls and limits, guards, several values, and a local object.
@@ -21,4 +23,22 @@ pub fn arrays()
 #[tactic(auto, using(crate::proofs::Computed::hash_fields))]
 pub fn hash_fields()
     ensures { AreRight hash_rows }
+{}
+
+/// Children that are bound: stops at each step, and where their lists then are.
+#[tactic(auto, using(crate::proofs::Computed::children))]
+pub fn children()
+    ensures { AreRight child_rows }
+{}
+
+/// Functions called on congruent objects.
+#[tactic(auto, using(crate::proofs::Computed::congruent))]
+pub fn congruent_objects()
+    ensures { AreRight congruent_rows }
+{}
+
+/// Exports of an abstract object: what is counted, and what is inside.
+#[tactic(auto, using(crate::proofs::Computed::abstract_objects))]
+pub fn abstract_objects()
+    ensures { AreRight abstract_rows }
 {}
