@@ -5,3 +5,5 @@ pub mod Generated
 pub mod Children
 pub mod Evaluated
 pub mod Checked
+pub mod LogicFunctions
+pub mod Logic
