@@ -7,3 +7,4 @@ pub mod Evaluated
 pub mod Checked
 pub mod LogicFunctions
 pub mod Logic
+pub mod AbstractRules
