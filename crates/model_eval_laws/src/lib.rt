@@ -1,0 +1,2 @@
+//! Laws of evaluation.
+#![tactic(auto)]
