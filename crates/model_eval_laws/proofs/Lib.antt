@@ -1,2 +1,4 @@
 pub mod Agree
 pub mod LimitLemmas
+pub mod Counts
+pub mod CountLemmas

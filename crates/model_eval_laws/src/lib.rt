@@ -2,6 +2,7 @@
 #![tactic(auto)]
 
 ghost use Rattle.model_eval_laws.specs.Laws.{AgreesUntilLimit, KeepsOutcomes};
+ghost use Rattle.model_eval_laws.specs.Counting.{CountsCalls};
 
 /// A larger limit of calls or of open forms changes nothing, unless the smaller one was met.
 #[tactic(auto, using(crate::proofs::LimitLemmas::agrees_until_limit))]
@@ -13,4 +14,11 @@ pub fn larger_limits_agree()
 #[tactic(auto, using(crate::proofs::LimitLemmas::keeps_outcomes))]
 pub fn growing_worlds_keep_outcomes()
     ensures { KeepsOutcomes }
+{}
+
+/// Calls never fall and never pass the limit; a stop at the limit has counted exactly so many; and where no call is left,
+/// every list is as it was.
+#[tactic(auto, using(crate::proofs::CountLemmas::counts_calls))]
+pub fn calls_are_counted()
+    ensures { CountsCalls }
 {}
