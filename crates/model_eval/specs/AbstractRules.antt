@@ -83,17 +83,19 @@ module _ (b : Book) (budget : ℕ) where
   logic_actual objects (Stobj x) = as_object by_name (list_of objects x)
 
   -- the outputs of a logic function, of which an object is the one that this variable names
-  abbrev pub out_values : ℕ → List Out → List Thing → List (Shown QualifiedName)
+  abbrev pub out_values : Option ℕ → List Out → List Thing → List (Shown QualifiedName)
   out_values x [] parts = []
   out_values x (o ∷ os) [] = []
   out_values x (Ordinary ∷ os) (p ∷ ps) = Plain p ∷ out_values x os ps
-  out_values x (worlds.Stobj y ∷ os) (p ∷ ps) = Stobj x ∷ out_values x os ps
+  out_values None (worlds.Stobj y ∷ os) (p ∷ ps) = Plain p ∷ out_values None os ps
+  out_values (Some x) (worlds.Stobj y ∷ os) (p ∷ ps) = Stobj x ∷ out_values (Some x) os ps
 
-  abbrev pub out_objects : ℕ → List Out → List Thing → Objects QualifiedName → Objects QualifiedName
+  abbrev pub out_objects : Option ℕ → List Out → List Thing → Objects QualifiedName → Objects QualifiedName
   out_objects x [] parts objects = objects
   out_objects x (o ∷ os) [] objects = objects
   out_objects x (Ordinary ∷ os) (p ∷ ps) objects = out_objects x os ps objects
-  out_objects x (worlds.Stobj y ∷ os) (p ∷ ps) objects = out_objects x os ps (with_list x (Value p) objects)
+  out_objects None (worlds.Stobj y ∷ os) (p ∷ ps) objects = out_objects None os ps objects
+  out_objects (Some x) (worlds.Stobj y ∷ os) (p ∷ ps) objects = out_objects (Some x) os ps (with_list x (Value p) objects)
 
   -- a value as one for each output
   abbrev pub out_parts : List Out → Thing → List Thing

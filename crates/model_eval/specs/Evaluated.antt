@@ -114,10 +114,10 @@ module _ {S : Type 0} (r : Rules S) where
   index_of None variables = None
   index_of (Some form) variables = Some (leaf_object (leaf form variables))
 
-  abbrev pub loan_of : ℕ → Reached → Variables S → Loan S
-  loan_of child by variables = record {
+  abbrev pub loan_of : ℕ → ℕ → Reached → Variables S → Loan S
+  loan_of child parent by variables = record {
     child = child;
-    parent = by.parent;
+    parent = parent;
     field = field_of (definition r.world by.accessor);
     index = index_of by.index variables;
   }
@@ -127,10 +127,15 @@ module _ {S : Type 0} (r : Rules S) where
   borrowing accessor loan go state =
       if is_reached loan.index (item loan.field (list_of state.objects loan.parent)) then go state else Stops (Guard accessor (loan_values loan)) None state
 
+  -- the parent is the object that its variable is
+  abbrev pub borrowed_from : ℕ → Reached → Shown S → Variables S → (Loan S → State S → Ended S) → State S → Ended S
+  borrowed_from child by (Plain o) variables go state = Stops Depth None state
+  borrowed_from child by (Stobj p) variables go state =
+      let loan = loan_of child p by variables in counting r.limit state (borrowing by.accessor loan (go loan))
+
   abbrev pub borrowed : ℕ → Option Reached → Variables S → (Loan S → State S → Ended S) → State S → Ended S
   borrowed child None variables go state = Stops Depth None state
-  borrowed child (Some by) variables go state =
-      let loan = loan_of child by variables in counting r.limit state (borrowing by.accessor loan (go loan))
+  borrowed child (Some by) variables go state = borrowed_from child by (variable_in r.kind variables by.parent) variables go state
 
   -- the bindings in order
   unfoldable pub all_borrowed : List ℕ → Cores → Variables S → List (Loan S) → (List (Loan S) → State S → Ended S) → State S → Ended S

@@ -1,5 +1,5 @@
 -- Variables and the lists of objects in scope, and how a call hands them over and back.
-use Rattle.std.specs.Prelude.{ℕ, List, [], ◌∷◌, map, nat_eq, if◌then◌else◌}
+use Rattle.std.specs.Prelude.{ℕ, List, [], ◌∷◌, map, Option, Some, None, nat_eq, if◌then◌else◌}
 use Rattle.model_objects.specs.Object.{Object}
 use Rattle.model_prims.specs.Kinds.{SymbolKind, nil_of}
 use Rattle.model_lists.specs.Lists.{ObjectList, End}
@@ -46,10 +46,10 @@ ordinary (Plain o ∷ vs) = o ∷ ordinary vs
 ordinary (Stobj x ∷ vs) = ordinary vs
 
 -- the variable of the first object
-abbrev pub first_object : {S : Type 0} → List (Shown S) → ℕ
-first_object [] = 0
+abbrev pub first_object : {S : Type 0} → List (Shown S) → Option ℕ
+first_object [] = None
 first_object (Plain o ∷ vs) = first_object vs
-first_object (Stobj x ∷ vs) = x
+first_object (Stobj x ∷ vs) = Some x
 
 -- ---- lists of objects
 

@@ -9,12 +9,12 @@ use Rattle.model_terms.specs.Cores.{Core, Cores, Reached, Var, Const, If, Let, M
 use Rattle.model_terms.specs.Worlds.{World, Definition, Function, FunctionOfAbstract, definition, Primitive, Defined, Macro, Constant, Concrete, Generated, Abstract, OfAbstract, Named, Signed}
 use Rattle.model_terms.specs.declared.role.AbstractRole.{AbstractRole}
 use Rattle.model_terms.specs.declared.role.AbstractRole.TheVariants as abstract_role
-use Rattle.model_eval.specs.Outcomes.{Shown, Stop, Guard, Steps, Depth, State, Ended, Gives, Stops, Unknown, then_with, with_state, one_more_call, counting}
-use Rattle.model_eval.specs.Scopes.{Variables, bound, single, inner_variables, inner_state, back, list_of}
+use Rattle.model_eval.specs.Outcomes.{Shown, Plain, Stobj, Stop, Guard, Steps, Depth, State, Ended, Gives, Stops, Unknown, then_with, with_state, one_more_call, counting}
+use Rattle.model_eval.specs.Scopes.{Variables, variable_in, bound, single, inner_variables, inner_state, back, list_of}
 use Rattle.model_eval.specs.Worlds.{object_layout}
 use Rattle.model_eval.specs.Generated.{generated}
 use Rattle.model_eval.specs.Children.{Loan, field_of, is_reached, loan_values, indices, are_twins, put_into_parent, without_innermost, returned}
-use Rattle.model_eval.specs.Evaluated.{Rules, Evaluator, is_false, scoped, guarded, refused, of_abstract, by_definition, exec_called, called, in_order, leaf, leaf_or, loan_of, borrowing, borrowed, all_borrowed, put_back, lending, loaned_variables, producing, with_loans, with_fresh, opened, evaluated, stobj_let_word}
+use Rattle.model_eval.specs.Evaluated.{Rules, Evaluator, is_false, scoped, guarded, refused, of_abstract, by_definition, exec_called, called, in_order, leaf, leaf_or, loan_of, borrowing, borrowed_from, borrowed, all_borrowed, put_back, lending, loaned_variables, producing, with_loans, with_fresh, opened, evaluated, stobj_let_word}
 use Rattle.model_eval_laws.specs.Agreement.{Agrees, ReachedStands, Closed, AllClosed, AllReached, ClosedDefinition}
 
 module _ {S : Type 0} (Excused : Stop S → Type 0) where
@@ -156,11 +156,15 @@ module _ {S : Type 0} (Excused : Stop S → Type 0) where
       agrees_borrowing accessor loan go to k state =
           agrees_if (is_reached loan.index (item loan.field (list_of state.objects loan.parent))) _ _ _ _ (k state) (inr refl)
 
+      agrees_borrowed_from : (child : ℕ) (by : Reached) (p : Shown S) (variables : Variables S) (go to : Loan S → State S → Ended S) → Stands by.accessor → ((loan : Loan S) → ToAgrees (go loan) (to loan)) → ToAgrees (borrowed_from r child by p variables go) (borrowed_from later_rules child by p variables to)
+      agrees_borrowed_from child by (Plain o) variables go to c k state = inr refl
+      agrees_borrowed_from child by (Stobj p) variables go to c k state =
+          rw (g.definitions by.accessor c)
+            (agrees_counting state _ _ (agrees_borrowing by.accessor (loan_of r child p by variables) _ _ (k (loan_of r child p by variables))))
+
       agrees_borrowed : (child : ℕ) (by : Option Reached) (variables : Variables S) (go to : Loan S → State S → Ended S) → ReachedStands Stands by → ((loan : Loan S) → ToAgrees (go loan) (to loan)) → ToAgrees (borrowed r child by variables go) (borrowed later_rules child by variables to)
       agrees_borrowed child None variables go to c k state = inr refl
-      agrees_borrowed child (Some by) variables go to c k state =
-          rw (g.definitions by.accessor c)
-            (agrees_counting state _ _ (agrees_borrowing by.accessor (loan_of r child by variables) _ _ (k (loan_of r child by variables))))
+      agrees_borrowed child (Some by) variables go to c k state = agrees_borrowed_from child by (variable_in r.kind variables by.parent) variables go to c k state
 
       agrees_all_borrowed : (names : List ℕ) (forms : Cores) (variables : Variables S) (loans : List (Loan S)) (go to : List (Loan S) → State S → Ended S) → AllReached Stands forms → ((ls : List (Loan S)) → ToAgrees (go ls) (to ls)) → ToAgrees (all_borrowed r names forms variables loans go) (all_borrowed later_rules names forms variables loans to)
       unfolding all_borrowed

@@ -14,11 +14,11 @@ use Rattle.model_terms.specs.Cores.{Core, Cores, Reached, Var, Const, If, Let, M
 use Rattle.model_terms.specs.Worlds.{World, Definition, Function, FunctionOfAbstract, definition, Primitive, Defined, Macro, Constant, Concrete, Generated, Abstract, OfAbstract, Named, Signed}
 use Rattle.model_terms.specs.declared.role.AbstractRole.{AbstractRole}
 use Rattle.model_terms.specs.declared.role.AbstractRole.TheVariants as abstract_role
-use Rattle.model_eval.specs.Outcomes.{Shown, Stop, Guard, Steps, Depth, Range, Large, Symbols, Objects, State, Ended, Gives, Stops, Unknown, then_with, with_state, one_more_call, counting}
-use Rattle.model_eval.specs.Scopes.{Variables, bound, single, inner_variables, inner_state, back, list_of}
+use Rattle.model_eval.specs.Outcomes.{Shown, Plain, Stobj, Stop, Guard, Steps, Depth, Range, Large, Symbols, Objects, State, Ended, Gives, Stops, Unknown, then_with, with_state, one_more_call, counting}
+use Rattle.model_eval.specs.Scopes.{Variables, variable_in, bound, single, inner_variables, inner_state, back, list_of}
 use Rattle.model_eval.specs.Generated.{effected}
 use Rattle.model_eval.specs.Children.{Loan, is_reached, loan_values, indices, are_twins, put_into_parent, without_innermost, returned}
-use Rattle.model_eval.specs.Evaluated.{Rules, Evaluator, is_false, scoped, guarded, refused, of_abstract, by_definition, exec_called, called, in_order, leaf, leaf_or, loan_of, borrowing, borrowed, all_borrowed, put_back, lending, loaned_variables, producing, with_loans, with_fresh, opened, evaluated, stobj_let_word}
+use Rattle.model_eval.specs.Evaluated.{Rules, Evaluator, is_false, scoped, guarded, refused, of_abstract, by_definition, exec_called, called, in_order, leaf, leaf_or, loan_of, borrowing, borrowed_from, borrowed, all_borrowed, put_back, lending, loaned_variables, producing, with_loans, with_fresh, opened, evaluated, stobj_let_word}
 use Rattle.model_eval_laws.specs.Laws.{IsSteps}
 use Rattle.model_eval_laws.specs.Counting.{Grown, Counts, HasObjects}
 
@@ -168,10 +168,11 @@ module _ {S : Type 0} (r : Rules S) where
     counts_abstract ev exec f abstract_role.Export values h k state =
         counts_guarded ev f.name f.formals f.guard values _ h (g.exports f values (exec f.exec) k) state
 
-    counts_effected : (f : ℕ) (values : List (Shown S)) (x : ℕ) (state : State S) (e : Effect S) → Counts r.limit state (effected r.kind f values x state e)
+    counts_effected : (f : ℕ) (values : List (Shown S)) (x : Option ℕ) (state : State S) (e : Effect S) → Counts r.limit state (effected r.kind f values x state e)
     counts_effected f values x state Refuses = stopped state f values
     counts_effected f values x state (Reads os) = grown_same r.limit state
-    counts_effected f values x state (Writes l) = grown_objects r.limit state state _ _ (grown_same r.limit state)
+    counts_effected f values None state (Writes l) = stopped state f values
+    counts_effected f values (Some x) state (Writes l) = grown_objects r.limit state state _ _ (grown_same r.limit state)
 
     counts_definition : (ev : Evaluator S) (go : FunctionOfAbstract → State S → Ended S) (d : Option Definition) (name : ℕ) (values : List (Shown S)) → EvCounts ev → ((f : FunctionOfAbstract) → GoCounts r.limit (go f)) → GoCounts r.limit (by_definition r ev go d name values)
     counts_definition ev go None name values h k state = stopped state name values
@@ -221,17 +222,25 @@ module _ {S : Type 0} (r : Rules S) where
 
     -- ---- children
 
-    counts_borrowed : (child : ℕ) (by : Option Reached) (variables : Variables S) (go : Loan S → State S → Ended S) → ((loan : Loan S) → GoCounts r.limit (go loan)) → GoCounts r.limit (borrowed r child by variables go)
-    counts_borrowed child None variables go k state = deep state
-    counts_borrowed child (Some by) variables go k state =
-        let loan = loan_of r child by variables in
+    counts_borrowed_from : (child : ℕ) (by : Reached) (p : Shown S) (variables : Variables S) (go : Loan S → State S → Ended S) → ((loan : Loan S) → GoCounts r.limit (go loan)) → GoCounts r.limit (borrowed_from r child by p variables go)
+    counts_borrowed_from child by (Plain o) variables go k state = deep state
+    counts_borrowed_from child by (Stobj p) variables go k state =
+        let loan = loan_of r child p by variables in
         counts_counting r.limit state (borrowing r by.accessor loan (go loan))
           (λ after. counts_if r.limit after (is_reached loan.index (item loan.field (list_of after.objects loan.parent))) (go loan after) (Stops (Guard by.accessor (loan_values loan)) None after) (k loan after) (stopped after by.accessor (loan_values loan)))
 
+    counts_borrowed : (child : ℕ) (by : Option Reached) (variables : Variables S) (go : Loan S → State S → Ended S) → ((loan : Loan S) → GoCounts r.limit (go loan)) → GoCounts r.limit (borrowed r child by variables go)
+    counts_borrowed child None variables go k state = deep state
+    counts_borrowed child (Some by) variables go k state = counts_borrowed_from child by (variable_in r.kind variables by.parent) variables go k state
+
+    stays_borrowed_from : (child : ℕ) (by : Reached) (p : Shown S) (variables : Variables S) (go : Loan S → State S → Ended S) (state : State S) → Stays r.limit state (borrowed_from r child by p variables go state)
+    stays_borrowed_from child by (Plain o) variables go state = λ q. refl
+    stays_borrowed_from child by (Stobj p) variables go state =
+        stays_counting r.limit state (borrowing r by.accessor (loan_of r child p by variables) (go (loan_of r child p by variables)))
+
     stays_borrowed : (child : ℕ) (by : Option Reached) (variables : Variables S) (go : Loan S → State S → Ended S) (state : State S) → Stays r.limit state (borrowed r child by variables go state)
     stays_borrowed child None variables go state = λ q. refl
-    stays_borrowed child (Some by) variables go state =
-        stays_counting r.limit state (borrowing r by.accessor (loan_of r child by variables) (go (loan_of r child by variables)))
+    stays_borrowed child (Some by) variables go state = stays_borrowed_from child by (variable_in r.kind variables by.parent) variables go state
 
     counts_all_borrowed : (names : List ℕ) (forms : Cores) (variables : Variables S) (loans : List (Loan S)) (go : List (Loan S) → State S → Ended S) → ((ls : List (Loan S)) → GoCounts r.limit (go ls)) → GoCounts r.limit (all_borrowed r names forms variables loans go)
     unfolding all_borrowed
