@@ -59,7 +59,7 @@ list_of (o ∷ os) x = if nat_eq x o.0 then o.1 else list_of os x
 
 abbrev pub with_list : {S : Type 0} → ℕ → ObjectList S → Objects S → Objects S
 with_list x l [] = []
-with_list x l (o ∷ os) = if nat_eq x o.0 then (x, l) ∷ os else o ∷ with_list x l os
+with_list x l (o ∷ os) = if nat_eq x o.0 then (o.0, l) ∷ os else o ∷ with_list x l os
 
 -- ---- calls: formals and actuals
 

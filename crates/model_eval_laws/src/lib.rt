@@ -3,6 +3,7 @@
 
 ghost use Rattle.model_eval_laws.specs.Laws.{AgreesUntilLimit, KeepsOutcomes};
 ghost use Rattle.model_eval_laws.specs.Counting.{CountsCalls};
+ghost use Rattle.model_eval_laws.specs.Scope.{LeavesOthers};
 
 /// A larger limit of calls or of open forms changes nothing, unless the smaller one was met.
 #[tactic(auto, using(crate::proofs::LimitLemmas::agrees_until_limit))]
@@ -21,4 +22,10 @@ pub fn growing_worlds_keep_outcomes()
 #[tactic(auto, using(crate::proofs::CountLemmas::counts_calls))]
 pub fn calls_are_counted()
     ensures { CountsCalls }
+{}
+
+/// An evaluation does not depend on the objects that no variable has, and leaves them as they are.
+#[tactic(auto, using(crate::proofs::FrameLemmas::leaves_others))]
+pub fn other_objects_are_left()
+    ensures { LeavesOthers }
 {}
