@@ -73,29 +73,45 @@ parts_for (x ∷ (y ∷ ys)) value = elements (x ∷ (y ∷ ys)) 0 value
 abbrev pub Caller : Type 0
 Caller = ℕ → List Thing → ℕ → Option Found
 
-module _ (b : Book) (budget : ℕ) where
+-- so many more calls within a budget, and then the rest
+abbrev pub spending : ℕ → ℕ → ℕ → (ℕ → Option Found) → Option Found
+spending budget n calls go = if nat_le (calls + n) budget then go (calls + n) else None
+
+-- the function that makes a new object
+abbrev pub creator_of : Option Definition → ℕ
+creator_of None = 0
+creator_of (Some (Primitive name row)) = 0
+creator_of (Some (Defined f)) = 0
+creator_of (Some (Macro name formals body)) = 0
+creator_of (Some (Constant name value)) = 0
+creator_of (Some (Concrete d class)) = d.creator
+creator_of (Some (Generated g)) = 0
+creator_of (Some (Abstract d)) = d.creator.name
+creator_of (Some (OfAbstract f)) = 0
+creator_of (Some (Named name formals)) = 0
+creator_of (Some (Signed name formals signature executable)) = 0
+
+-- ---- children
+
+-- the children as variables
+abbrev pub with_children : List (Loan QualifiedName) → Values → Values
+with_children [] values = values
+with_children (l ∷ ls) values = (l.child, child_object by_name l.field l.index (value_in values l.parent)) ∷ with_children ls values
+
+-- the children that are to be put back
+abbrev pub put_loans : List ℕ → List (Loan QualifiedName) → List (Loan QualifiedName)
+put_loans vars [] = []
+put_loans vars (l ∷ ls) = if list_any (nat_eq l.child) vars then l ∷ put_loans vars ls else put_loans vars ls
+
+-- the parent with these children, whose values are those of the variables
+abbrev pub with_parent : List (Loan QualifiedName) → Values → Values → Values
+with_parent [] vars values = values
+with_parent (l ∷ ls) vars values =
+    with_parent ls vars ((l.parent, with_child_object by_name l.field l.index (value_in vars l.child) (value_in values l.parent)) ∷ values)
+
+module _ (b : Book) where
   abbrev pub seen : Object ℕ → Thing
   seen o = form_of b.symbols o
-
-  -- so many more calls, and then the rest
-  abbrev pub spending : ℕ → ℕ → (ℕ → Option Found) → Option Found
-  spending n calls go = if nat_le (calls + n) budget then go (calls + n) else None
-
-  -- the function that makes a new object
-  abbrev pub creator_of : Option Definition → ℕ
-  creator_of None = 0
-  creator_of (Some (Primitive name row)) = 0
-  creator_of (Some (Defined f)) = 0
-  creator_of (Some (Macro name formals body)) = 0
-  creator_of (Some (Constant name value)) = 0
-  creator_of (Some (Concrete d class)) = d.creator
-  creator_of (Some (Generated g)) = 0
-  creator_of (Some (Abstract d)) = d.creator.name
-  creator_of (Some (OfAbstract f)) = 0
-  creator_of (Some (Named name formals)) = 0
-  creator_of (Some (Signed name formals signature executable)) = 0
-
-  -- ---- children
 
   abbrev pub leaf_value : Core → Values → Thing
   leaf_value (Var x) values = value_in values x
@@ -130,28 +146,13 @@ module _ (b : Book) (budget : ℕ) where
   logic_loans [] (more form forms) values = []
   logic_loans (x ∷ xs) (more form forms) values = with_loan x (reached form) values (logic_loans xs forms values)
 
-  -- the children as variables
-  abbrev pub with_children : List (Loan QualifiedName) → Values → Values
-  with_children [] values = values
-  with_children (l ∷ ls) values = (l.child, child_object by_name l.field l.index (value_in values l.parent)) ∷ with_children ls values
-
-  -- the children that are to be put back
-  abbrev pub put_loans : List ℕ → List (Loan QualifiedName) → List (Loan QualifiedName)
-  put_loans vars [] = []
-  put_loans vars (l ∷ ls) = if list_any (nat_eq l.child) vars then l ∷ put_loans vars ls else put_loans vars ls
-
-  -- the parent with these children, whose values are those of the variables
-  abbrev pub with_parent : List (Loan QualifiedName) → Values → Values → Values
-  with_parent [] vars values = values
-  with_parent (l ∷ ls) vars values =
-      with_parent ls vars ((l.parent, with_child_object by_name l.field l.index (value_in vars l.child) (value_in values l.parent)) ∷ values)
-
+module _ (b : Book) (budget : ℕ) where
   -- ---- forms; `call` calls functions
 
   unfoldable mutual
     pub form_value : Caller → Core → Values → ℕ → Option Found
     form_value call (Var x) values calls = found (value_in values x) calls
-    form_value call (Const o) values calls = found (seen o) calls
+    form_value call (Const o) values calls = found (seen b o) calls
     form_value call (If test a c) values calls =
         then_found (form_value call test values calls) (λ v calls. if is_nil by_name v then form_value call c values calls else form_value call a values calls)
     form_value call (Let names forms body) values calls =
@@ -160,11 +161,11 @@ module _ (b : Book) (budget : ℕ) where
     form_value call (MvLet names form body) values calls =
         then_found (form_value call form values calls) (λ v calls. form_value call body (bind names (elements names 0 v) values) calls)
     form_value call (StobjLet names forms vars producer consumer) values calls =
-        let loans = logic_loans names forms values in
+        let loans = logic_loans b names forms values in
         let put = put_loans vars loans in
-        spending (length loans) calls (λ calls.
+        spending budget (length loans) calls (λ calls.
         then_found (form_value call producer (with_children loans values) calls) (λ v calls.
-        spending (length put) calls (λ calls.
+        spending budget (length put) calls (λ calls.
         let bindings = bind vars (parts_for vars v) [] in
         form_value call consumer (bindings ++ with_parent put bindings values) calls)))
     form_value call (WithLocal object names producer body) values calls =
@@ -190,7 +191,7 @@ module _ (b : Book) (budget : ℕ) where
   defined_value call exported (Some (Constant name value)) args calls = None
   defined_value call exported (Some (Concrete d class)) args calls = None
   defined_value call exported (Some (Generated g)) args calls =
-      found (logic_generated by_name g (object_layout seen b.world g.object) args) calls
+      found (logic_generated by_name g (object_layout (seen b) b.world g.object) args) calls
   defined_value call exported (Some (Abstract d)) args calls = None
   defined_value call exported (Some (OfAbstract f)) args calls = exported f.logic args calls
   defined_value call exported (Some (Named name formals)) args calls = None
@@ -204,7 +205,7 @@ module _ (b : Book) (budget : ℕ) where
   unfoldable pub call_within : ℕ → Caller
   call_within zero name args calls = None
   call_within (suc n) name args calls =
-      spending 1 calls (defined_value (call_within n) (logic_of_abstract (call_within n)) (definition b.world name) args)
+      spending budget 1 calls (defined_value (call_within n) (logic_of_abstract (call_within n)) (definition b.world name) args)
 
   -- no calls are nested deeper than the budget has calls
   abbrev pub logic_call : Caller

@@ -5,3 +5,4 @@ pub mod CountLemmas
 pub mod Lists
 pub mod Frame
 pub mod FrameLemmas
+pub mod BudgetLemmas

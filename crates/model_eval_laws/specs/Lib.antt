@@ -2,3 +2,4 @@ pub mod Agreement
 pub mod Laws
 pub mod Counting
 pub mod Scope
+pub mod Budgets

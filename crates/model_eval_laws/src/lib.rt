@@ -3,6 +3,7 @@
 
 ghost use Rattle.model_eval_laws.specs.Laws.{AgreesUntilLimit, KeepsOutcomes};
 ghost use Rattle.model_eval_laws.specs.Counting.{CountsCalls};
+ghost use Rattle.model_eval_laws.specs.Budgets.{IsSameAtLargerBudgets};
 ghost use Rattle.model_eval_laws.specs.Scope.{LeavesOthers};
 
 /// A larger limit of calls or of open forms changes nothing, unless the smaller one was met.
@@ -28,4 +29,10 @@ pub fn calls_are_counted()
 #[tactic(auto, using(crate::proofs::FrameLemmas::leaves_others))]
 pub fn other_objects_are_left()
     ensures { LeavesOthers }
+{}
+
+/// The logic value is the same at every larger budget, and is one at most.
+#[tactic(auto, using(crate::proofs::BudgetLemmas::is_same_at_larger_budgets))]
+pub fn larger_budgets_give_the_same()
+    ensures { IsSameAtLargerBudgets }
 {}
