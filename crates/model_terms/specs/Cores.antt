@@ -1,5 +1,5 @@
 -- Core forms: what expansion leaves of a form. Names and functions are the numbers of their symbols.
-use Rattle.std.specs.Prelude.{ℕ, ◌+◌, List, [], ◌∷◌, Option, Some, None}
+use Rattle.std.specs.Prelude.{ℕ, zero, suc, ◌+◌, List, [], ◌∷◌, Option, Some, None, option_map, option_and_then}
 use Rattle.model_objects.specs.Object.{Object}
 
 mutual
@@ -21,10 +21,6 @@ mutual
     none : Cores
     more : Core → Cores → Cores
 
--- a place in a core form: the number of a child, the number of a child of that, and so on
-abbrev pub Place : Type 0
-Place = List ℕ
-
 abbrev pub cores : List Core → Cores
 cores [] = none
 cores (f ∷ fs) = more f (cores fs)
@@ -33,18 +29,46 @@ abbrev pub count : Cores → ℕ
 count none = 0
 count (more f fs) = 1 + count fs
 
+-- ---- places
+
+-- a form after others
+abbrev pub and_last : Cores → Core → Cores
+and_last none f = more f none
+and_last (more g gs) f = more g (and_last gs f)
+
+-- the children of a form, by their numbers from 0; what a `STOBJ-LET` binds is none
+abbrev pub children : Core → Cores
+children (Var x) = none
+children (Const o) = none
+children (If a b c) = more a (more b (more c none))
+children (Let names bound body) = and_last bound body
+children (Mv parts) = parts
+children (MvLet names bound body) = more bound (more body none)
+children (StobjLet names bound vars producer consumer) = more producer (more consumer none)
+children (WithLocal object names producer body) = more producer (more body none)
+children (MustBeEqual logic exec) = more logic (more exec none)
+children (Call f actuals) = actuals
+
+abbrev pub child_at : Cores → ℕ → Option Core
+child_at none k = None
+child_at (more f fs) zero = Some f
+child_at (more f fs) (suc k) = child_at fs k
+
+-- the number of a child, the number of a child of that, and so on
+abbrev pub Place : Type 0
+Place = List ℕ
+
+-- the form at a place
+abbrev pub form_at : Core → Place → Option Core
+form_at f [] = Some f
+form_at f (k ∷ place) = option_and_then (λ g. form_at g place) (child_at (children f) k)
+
+-- ---- what is read off a form
+
 -- the name of a variable
 abbrev pub variable : Core → Option ℕ
 variable (Var x) = Some x
-variable (Const o) = None
-variable (If a b c) = None
-variable (Let names bound body) = None
-variable (Mv parts) = None
-variable (MvLet names bound body) = None
-variable (StobjLet names bound vars producer consumer) = None
-variable (WithLocal object names producer body) = None
-variable (MustBeEqual logic exec) = None
-variable (Call f actuals) = None
+variable f = None
 
 -- what a `STOBJ-LET` binds to a child: the child's accessor, the index in an array of children, and the variable of the parent
 pub record Reached : Type 0 where
@@ -52,25 +76,17 @@ pub record Reached : Type 0 where
   pub index : Option Core
   pub parent : ℕ
 
-abbrev pub reached_at : ℕ → Option Core → Option ℕ → Option Reached
-reached_at f index None = None
-reached_at f index (Some p) = Some (record { accessor = f; index = index; parent = p })
+-- an accessor with its index and the variable of a parent
+abbrev pub reached_from : ℕ → Option Core → Core → Option Reached
+reached_from f index parent = option_map (λ p. record { accessor = f; index = index; parent = p }) (variable parent)
 
 -- (f p) or (f index p), p a variable
 abbrev pub reached_by : ℕ → Cores → Option Reached
 reached_by f none = None
-reached_by f (more a none) = reached_at f None (variable a)
-reached_by f (more a (more b none)) = reached_at f (Some a) (variable b)
+reached_by f (more p none) = reached_from f None p
+reached_by f (more index (more p none)) = reached_from f (Some index) p
 reached_by f (more a (more b (more c rest))) = None
 
 abbrev pub reached : Core → Option Reached
-reached (Var x) = None
-reached (Const o) = None
-reached (If a b c) = None
-reached (Let names bound body) = None
-reached (Mv parts) = None
-reached (MvLet names bound body) = None
-reached (StobjLet names bound vars producer consumer) = None
-reached (WithLocal object names producer body) = None
-reached (MustBeEqual logic exec) = None
 reached (Call f actuals) = reached_by f actuals
+reached f = None

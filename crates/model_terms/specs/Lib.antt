@@ -1,2 +1,11 @@
 pub mod Cores
 pub mod Worlds
+pub mod Classes
+pub mod Scopes
+pub mod Outputs
+pub mod Rounds
+pub mod Sites
+pub mod Children
+pub mod Nested
+pub mod Rules
+pub mod Faults

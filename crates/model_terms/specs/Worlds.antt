@@ -1,5 +1,6 @@
 -- Worlds: the definitions that stand, by the numbers of their names.
-use Rattle.std.specs.Prelude.{ℕ, List, [], ◌∷◌, Bool, Option, Some, None, nat_eq, if◌then◌else◌}
+use Rattle.std.specs.Prelude.{ℕ, List, Bool, Option, nat_eq}
+use Rattle.std.specs.List.{find}
 use Rattle.acl_base.specs.declared.layout.Test.{Test}
 use Rattle.model_objects.specs.Object.{Object}
 use Rattle.model_prims.specs.Rows.{Row}
@@ -133,5 +134,4 @@ World = List Definition
 
 -- the definition of a name
 abbrev pub definition : World → ℕ → Option Definition
-definition [] x = None
-definition (d ∷ w) x = if nat_eq x (name_of d) then Some d else definition w x
+definition w x = find (λ d. nat_eq x (name_of d)) w
