@@ -1,5 +1,5 @@
 -- Checked evaluation: every guard, every bound and every limit, symbols by number.
-use Rattle.std.specs.Prelude.{ℕ, List, [], ◌∷◌, Option, Some, None}
+use Rattle.std.specs.Prelude.{ℕ, List, [], ◌∷◌, map, Option, Some, None}
 use Rattle.model_objects.specs.Object.{Object}
 use Rattle.model_symbols.specs.Symbols.{QualifiedName, Package, Table}
 use Rattle.model_prims.specs.Kinds.{by_number}
@@ -8,8 +8,8 @@ use Rattle.model_prims.specs.Applied as prims
 use Rattle.model_prims.specs.declared.prim.Prim.{Prim}
 use Rattle.model_lists.specs.Layouts.{initial}
 use Rattle.model_terms.specs.Worlds.{World, FunctionOfAbstract}
-use Rattle.model_eval.specs.Outcomes.{Shown, Plain, Stop, Guard, Range, Large, Symbols, State, Ended, Gives, Stops, Unknown, counting}
-use Rattle.model_eval.specs.Scopes.{ordinary}
+use Rattle.model_eval.specs.Outcomes.{Shown, Plain, Stobj, Objects, Stop, Guard, Range, Large, Symbols, State, Ended, Gives, Stops, Unknown, counting}
+use Rattle.model_eval.specs.Scopes.{Variables, ordinary}
 use Rattle.model_eval.specs.Worlds.{object_layout}
 use Rattle.model_eval.specs.Evaluated.{Rules, Evaluator, evaluated}
 
@@ -50,3 +50,13 @@ checked_rules w packages limit = record {
 -- the outcome of a form with a limit of calls, where so many forms may be open
 abbrev pub checked : World → List Package → ℕ → ℕ → Evaluator ℕ
 checked w packages limit depth = evaluated (checked_rules w packages limit) depth
+
+-- ---- how an evaluation begins
+
+-- with these objects in scope, and so many calls counted before
+abbrev pub begun : List QualifiedName → Objects ℕ → ℕ → State ℕ
+begun symbols objects used = record { objects = objects; symbols = symbols; calls = used; outer = 0 }
+
+-- each object under its own name
+abbrev pub live : {S : Type 0} → Objects S → Variables S
+live objects = map (λ o. (o.0, Stobj o.0)) objects

@@ -9,6 +9,8 @@ use Rattle.model_eval.specs.Generated.{effect}
 use Rattle.model_eval.specs.Evaluated.{exec_called, called, in_order, all_borrowed, put_back, evaluated}
 use Rattle.model_eval_rows.specs.Books.{AreRight}
 use Rattle.model_eval_rows.specs.Counting.{counting_rows}
+use Rattle.model_eval_rows.specs.Types.{TypesAreRight, type_rows}
+use Rattle.model_eval_rows.specs.ShownLists.{ShownAreRight, shown_rows}
 use Rattle.model_eval_rows.specs.Several.{child_rows, congruent_rows}
 use Rattle.model_eval_rows.specs.Abstract.{abstract_rows}
 use Rattle.model_eval_rows.specs.Fields.{array_rows, hash_rows}
@@ -36,3 +38,11 @@ congruent = record { all = refl }
 pub abstract_objects : AreRight abstract_rows
 unfolding abstract_rows guard recognizer_guard relation_guard arithmetic_guard listing_guard naming_guard wanted recognized related computed listed named_by applied_to bounded accessed changed lengthened hash_read hash_bound hash_looked_up hash_put hash_removed layout_within effect exec_called called in_order all_borrowed put_back evaluated
 abstract_objects = record { all = refl }
+
+pub types : TypesAreRight type_rows
+unfolding type_rows recognized
+types = record { all = refl }
+
+pub shown_lists : ShownAreRight shown_rows
+unfolding shown_rows
+shown_lists = record { shown = refl; cells = refl }

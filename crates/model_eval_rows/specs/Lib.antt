@@ -3,3 +3,5 @@ pub mod Counting
 pub mod Fields
 pub mod Several
 pub mod Abstract
+pub mod Types
+pub mod ShownLists

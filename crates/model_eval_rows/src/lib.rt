@@ -3,6 +3,8 @@
 
 ghost use Rattle.model_eval_rows.specs.Books.{AreRight};
 ghost use Rattle.model_eval_rows.specs.Counting.{counting_rows};
+ghost use Rattle.model_eval_rows.specs.Types.{TypesAreRight, type_rows};
+ghost use Rattle.model_eval_rows.specs.ShownLists.{ShownAreRight, shown_rows};
 ghost use Rattle.model_eval_rows.specs.Several.{child_rows, congruent_rows};
 ghost use Rattle.model_eval_rows.specs.Abstract.{abstract_rows};
 ghost use Rattle.model_eval_rows.specs.Fields.{array_rows, hash_rows};
@@ -41,4 +43,16 @@ pub fn congruent_objects()
 #[tactic(auto, using(crate::proofs::Computed::abstract_objects))]
 pub fn abstract_objects()
     ensures { AreRight abstract_rows }
+{}
+
+/// Types as they are written, and what meets them.
+#[tactic(auto, using(crate::proofs::Computed::types))]
+pub fn types()
+    ensures { TypesAreRight type_rows }
+{}
+
+/// What is printed for an object, and the cells that it holds.
+#[tactic(auto, using(crate::proofs::Computed::shown_lists))]
+pub fn shown_lists()
+    ensures { ShownAreRight shown_rows }
 {}
