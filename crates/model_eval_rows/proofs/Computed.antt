@@ -9,6 +9,9 @@ use Rattle.model_eval.specs.Generated.{effect}
 use Rattle.model_eval.specs.Evaluated.{exec_called, called, in_order, all_borrowed, put_back, evaluated}
 use Rattle.model_eval_rows.specs.Books.{AreRight}
 use Rattle.model_eval_rows.specs.Counting.{counting_rows}
+use Rattle.model_eval.specs.LogicFunctions.{logic_access, logic_update, logic_effect}
+use Rattle.model_eval.specs.Logic.{form_value, form_values, call_within}
+use Rattle.model_eval_rows.specs.Logic.{LogicIsRight, logic_rows, odd_rows}
 use Rattle.model_eval_rows.specs.Types.{TypesAreRight, type_rows}
 use Rattle.model_eval_rows.specs.ShownLists.{ShownAreRight, shown_rows}
 use Rattle.model_eval_rows.specs.Several.{child_rows, congruent_rows}
@@ -46,3 +49,11 @@ types = record { all = refl }
 pub shown_lists : ShownAreRight shown_rows
 unfolding shown_rows
 shown_lists = record { shown = refl; cells = refl }
+
+pub logic_values : LogicIsRight logic_rows
+unfolding logic_rows recognized related computed listed named_by wanted layout_within logic_access logic_update logic_effect form_value form_values call_within
+logic_values = record { all = refl }
+
+pub odd_lists : LogicIsRight odd_rows
+unfolding odd_rows recognized related computed listed named_by wanted layout_within logic_access logic_update logic_effect form_value form_values call_within
+odd_lists = record { all = refl }

@@ -78,7 +78,7 @@ value_and_st = Ordinary ∷ worlds.Stobj st ∷ []
 abbrev value_and_foundation : List worlds.Out
 value_and_foundation = Ordinary ∷ worlds.Stobj foundation ∷ []
 
-abbrev book : World
+abbrev pub book : World
 book =
     primitives
     ++ (object foundation (integer_field ∷ []) None foundation

@@ -123,15 +123,18 @@ generated name object field what ins outs = Generated (record {
   signature = record { ins = ins; outs = outs };
 })
 
--- an object; the names of its functions are those that the rows need
-abbrev pub object : ℕ → List Shape → Option ℕ → ℕ → Definition
-object name shapes congruent_to class = Concrete (record {
+-- an object with its creator, where the rows need it
+abbrev pub created_object : ℕ → ℕ → List Shape → Option ℕ → ℕ → Definition
+created_object creator name shapes congruent_to class = Concrete (record {
   name = name;
   recognizer = 0;
-  creator = 0;
+  creator = creator;
   fields = map (λ (s : Shape). record { name = 0; shape = s; made = [] }) shapes;
   congruent_to = congruent_to;
 }) class
+
+abbrev pub object : ℕ → List Shape → Option ℕ → ℕ → Definition
+object name shapes congruent_to class = created_object 0 name shapes congruent_to class
 
 -- a field of type `integer` with 0 at first
 abbrev pub integer_field : Shape

@@ -7,7 +7,7 @@ use Rattle.model_terms.specs.Worlds.{World, Ordinary}
 use Rattle.model_terms.specs.Worlds as worlds
 use Rattle.model_terms.specs.declared.role.Role.TheVariants as role
 use Rattle.model_eval.specs.Outcomes.{Plain, Stobj, Guard, Steps, Depth, Ended}
-use Rattle.model_eval_rows.specs.Books.{Row, number, symbol, int, quoted, call, always, numbers, primitives, function, generated, object, integer_field, gives, stops, not_word, integerp_word, plus_word, minus_word, zp_word, natp_word}
+use Rattle.model_eval_rows.specs.Books.{Row, number, symbol, int, quoted, call, always, numbers, primitives, function, generated, created_object, integer_field, gives, stops, not_word, integerp_word, plus_word, minus_word, zp_word, natp_word}
 
 abbrev pub st : ℕ
 st = 196
@@ -18,13 +18,19 @@ pc = 197
 abbrev pub update_pc : ℕ
 update_pc = 198
 
-abbrev up : ℕ
+abbrev create_st : ℕ
+create_st = 205
+
+abbrev pub stp : ℕ
+stp = 206
+
+abbrev pub up : ℕ
 up = 199
 
-abbrev spin : ℕ
+abbrev pub spin : ℕ
 spin = 200
 
-abbrev local : ℕ
+abbrev pub local : ℕ
 local = 201
 
 abbrev n : ℕ
@@ -33,13 +39,15 @@ n = 202
 abbrev x : ℕ
 x = 203
 
-abbrev a : ℕ
+abbrev pub a : ℕ
 a = 204
 
 -- the object and its functions
 abbrev pub counter : World
 counter =
-    object st (integer_field ∷ []) None st
+    created_object create_st st (integer_field ∷ []) None st
+    ∷ generated create_st st 0 role.Creator [] (worlds.Stobj st ∷ [])
+    ∷ generated stp st 0 role.Recognizer (worlds.Stobj st ∷ []) (Ordinary ∷ [])
     ∷ generated pc st 0 role.Access (worlds.Stobj st ∷ []) (Ordinary ∷ [])
     ∷ generated update_pc st 0 role.Update (Ordinary ∷ worlds.Stobj st ∷ []) (worlds.Stobj st ∷ [])
     ∷ []
@@ -59,7 +67,7 @@ local_body =
       (Let (st ∷ []) (cores (call update_pc (Var n ∷ Var st ∷ []) ∷ [])) (Mv (cores (call pc (Var st ∷ []) ∷ Var st ∷ []))))
       (Var x)
 
-abbrev book : World
+abbrev pub book : World
 book =
     primitives
     ++ (counter
@@ -78,7 +86,7 @@ run limit depth before form answer = record {
   answer = answer;
 }
 
-abbrev up_three : Core
+abbrev pub up_three : Core
 up_three = call up (int 3 ∷ Var st ∷ [])
 
 unfoldable pub counting_rows : List Row

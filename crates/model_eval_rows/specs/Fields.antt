@@ -14,58 +14,58 @@ use Rattle.model_terms.specs.declared.role.Role.TheVariants as role
 use Rattle.model_eval.specs.Outcomes.{Plain, Stobj, Guard, Steps, Depth, Ended}
 use Rattle.model_eval_rows.specs.Books.{Row, number, symbol, int, quoted, call, always, items, numbers, primitives, function, generated, object, gives, stops}
 
-abbrev st : ℕ
+abbrev pub st : ℕ
 st = 196
 
-abbrev ai : ℕ
+abbrev pub ai : ℕ
 ai = 197
 
-abbrev update_ai : ℕ
+abbrev pub update_ai : ℕ
 update_ai = 198
 
-abbrev bi : ℕ
+abbrev pub bi : ℕ
 bi = 199
 
 abbrev update_bi : ℕ
 update_bi = 200
 
-abbrev b_length : ℕ
+abbrev pub b_length : ℕ
 b_length = 201
 
 abbrev resize_a : ℕ
 resize_a = 202
 
-abbrev resize_b : ℕ
+abbrev pub resize_b : ℕ
 resize_b = 203
 
-abbrev h_get : ℕ
+abbrev pub h_get : ℕ
 h_get = 204
 
-abbrev h_boundp : ℕ
+abbrev pub h_boundp : ℕ
 h_boundp = 205
 
-abbrev h_get_bound : ℕ
+abbrev pub h_get_bound : ℕ
 h_get_bound = 206
 
-abbrev h_put : ℕ
+abbrev pub h_put : ℕ
 h_put = 207
 
-abbrev h_rem : ℕ
+abbrev pub h_rem : ℕ
 h_rem = 208
 
-abbrev h_count : ℕ
+abbrev pub h_count : ℕ
 h_count = 209
 
-abbrev h_clear : ℕ
+abbrev pub h_clear : ℕ
 h_clear = 210
 
-abbrev ap : ℕ
+abbrev pub ap : ℕ
 ap = 211
 
-abbrev bp : ℕ
+abbrev pub bp : ℕ
 bp = 212
 
-abbrev stp : ℕ
+abbrev pub stp : ℕ
 stp = 213
 
 abbrev write_all : ℕ
@@ -74,7 +74,7 @@ write_all = 214
 abbrev x : ℕ
 x = 215
 
-abbrev k : ℕ
+abbrev pub k : ℕ
 k = 216
 
 abbrev found : ℕ
@@ -107,7 +107,7 @@ then_st first next = Let (st ∷ []) (cores (first ∷ [])) next
 abbrev write_all_body : Core
 write_all_body = then_st (update 0 (int 1)) (then_st (update 1 (int 2)) (then_st (update 2 (int 3)) (update 3 (quoted x))))
 
-abbrev book : World
+abbrev pub book : World
 book =
     primitives
     ++ (object st

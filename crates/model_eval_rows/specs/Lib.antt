@@ -5,3 +5,4 @@ pub mod Several
 pub mod Abstract
 pub mod Types
 pub mod ShownLists
+pub mod Logic

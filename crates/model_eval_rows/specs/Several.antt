@@ -11,13 +11,13 @@ use Rattle.model_eval.specs.Outcomes.{Plain, Stobj, Guard, Steps, Depth, Ended}
 use Rattle.model_eval.specs.Evaluated.{stobj_let_word}
 use Rattle.model_eval_rows.specs.Books.{Row, number, symbol, int, quoted, call, both_hold, always, items, numbers, primitives, function, generated, object, integer_field, gives, stops, natp_word, below_word}
 
-abbrev kid : ℕ
+abbrev pub kid : ℕ
 kid = 196
 
-abbrev kid2 : ℕ
+abbrev pub kid2 : ℕ
 kid2 = 197
 
-abbrev par : ℕ
+abbrev pub par : ℕ
 par = 198
 
 abbrev val : ℕ
@@ -109,7 +109,7 @@ both_body =
 abbrev ordinary_and_par : List worlds.Out
 ordinary_and_par = Ordinary ∷ worlds.Stobj par ∷ []
 
-abbrev book : World
+abbrev pub book : World
 book =
     primitives
     ++ (object kid (integer_field ∷ []) None kid
@@ -129,14 +129,14 @@ book =
     ∷ function both (kid ∷ kid2 ∷ []) (worlds.Stobj kid ∷ worlds.Stobj kid2 ∷ []) (worlds.Stobj kid ∷ worlds.Stobj kid2 ∷ []) always both_body
     ∷ [])
 
-abbrev one_field : ℕ → ObjectList ℕ
+abbrev pub one_field : ℕ → ObjectList ℕ
 one_field n = numbers (n ∷ [])
 
-abbrev parent : ℕ → ℕ → ℕ → ℕ → ObjectList ℕ
+abbrev pub parent : ℕ → ℕ → ℕ → ℕ → ObjectList ℕ
 parent a b c d = items (items (one_field a ∷ one_field b ∷ one_field c ∷ []) ∷ one_field d ∷ [])
 
 -- kid, kid2 and par
-abbrev family : ℕ → ℕ → ObjectList ℕ → List (ℕ × ObjectList ℕ)
+abbrev pub family : ℕ → ℕ → ObjectList ℕ → List (ℕ × ObjectList ℕ)
 family a b p = (kid, one_field a) ∷ (kid2, one_field b) ∷ (par, p) ∷ []
 
 abbrev run : ℕ → ℕ → List (ℕ × ObjectList ℕ) → Core → Ended ℕ → Row
@@ -145,7 +145,7 @@ run limit depth before form answer = record { world = book; limit = limit; depth
 abbrev new : List (ℕ × ObjectList ℕ)
 new = family 0 0 (parent 0 0 0 0)
 
-abbrev call_two : ℕ → ℕ → Core
+abbrev pub call_two : ℕ → ℕ → Core
 call_two m n = call two (int m ∷ int n ∷ Var par ∷ [])
 
 unfoldable pub child_rows : List Row

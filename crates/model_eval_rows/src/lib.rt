@@ -3,6 +3,7 @@
 
 ghost use Rattle.model_eval_rows.specs.Books.{AreRight};
 ghost use Rattle.model_eval_rows.specs.Counting.{counting_rows};
+ghost use Rattle.model_eval_rows.specs.Logic.{LogicIsRight, logic_rows, odd_rows};
 ghost use Rattle.model_eval_rows.specs.Types.{TypesAreRight, type_rows};
 ghost use Rattle.model_eval_rows.specs.ShownLists.{ShownAreRight, shown_rows};
 ghost use Rattle.model_eval_rows.specs.Several.{child_rows, congruent_rows};
@@ -55,4 +56,16 @@ pub fn types()
 #[tactic(auto, using(crate::proofs::Computed::shown_lists))]
 pub fn shown_lists()
     ensures { ShownAreRight shown_rows }
+{}
+
+/// Logic values: no guard, and a budget of calls.
+#[tactic(auto, using(crate::proofs::Computed::logic_values))]
+pub fn logic_values()
+    ensures { LogicIsRight logic_rows }
+{}
+
+/// The functions of an object in the logic, on lists that no object has.
+#[tactic(auto, using(crate::proofs::Computed::odd_lists))]
+pub fn odd_lists()
+    ensures { LogicIsRight odd_rows }
 {}
