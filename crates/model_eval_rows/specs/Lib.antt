@@ -6,3 +6,4 @@ pub mod Abstract
 pub mod Types
 pub mod ShownLists
 pub mod Logic
+pub mod Abstractly

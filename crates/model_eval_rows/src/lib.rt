@@ -3,6 +3,8 @@
 
 ghost use Rattle.model_eval_rows.specs.Books.{AreRight};
 ghost use Rattle.model_eval_rows.specs.Counting.{counting_rows};
+ghost use Rattle.model_eval_rows.specs.Abstractly.{AbstractlyRight, Corresponds};
+ghost use Rattle.model_eval_rows.specs.Abstractly as abstractly;
 ghost use Rattle.model_eval_rows.specs.Logic.{LogicIsRight, logic_rows, odd_rows};
 ghost use Rattle.model_eval_rows.specs.Types.{TypesAreRight, type_rows};
 ghost use Rattle.model_eval_rows.specs.ShownLists.{ShownAreRight, shown_rows};
@@ -68,4 +70,16 @@ pub fn logic_values()
 #[tactic(auto, using(crate::proofs::Computed::odd_lists))]
 pub fn odd_lists()
     ensures { LogicIsRight odd_rows }
+{}
+
+/// Abstract evaluation of exports, and of a new abstract object.
+#[tactic(auto, using(crate::proofs::Computed::abstract_values))]
+pub fn abstract_values()
+    ensures { AbstractlyRight abstractly.abstract_rows }
+{}
+
+/// A foundation's list and an abstract list that correspond.
+#[tactic(auto, using(crate::proofs::Computed::corresponding))]
+pub fn corresponding_lists()
+    ensures { Corresponds }
 {}
