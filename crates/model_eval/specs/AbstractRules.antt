@@ -1,10 +1,10 @@
 -- Abstract evaluation: as checked evaluation, but an abstract object is its abstract list, an export gives the values of its
 -- logic function, nothing inside an export is counted, and symbols are named and have no limit. And when lists correspond.
-use Rattle.std.specs.Prelude.{◌≡◌, ℕ, List, [], ◌∷◌, map, Bool, true, false, Option, Some, None, ℤ, nat_le, if◌then◌else◌}
+use Rattle.std.specs.Prelude.{◌≡◌, ℕ, List, [], ◌∷◌, map, true, false, Option, Some, None, ℤ, nat_le, if◌then◌else◌}
 use Rattle.std.specs.Option.{option_map}
-use Rattle.model_objects.specs.Object.{Object, Integer, Symbol, weight, max_weight, named}
+use Rattle.model_objects.specs.Object.{Integer, Symbol, weight, max_weight}
 use Rattle.model_symbols.specs.Symbols.{QualifiedName, Package, symbol_in, form_of}
-use Rattle.model_symbols.specs.Opening.{truth_name, nil_name}
+use Rattle.model_symbols.specs.Opening.{truth_name}
 use Rattle.model_prims.specs.Kinds.{by_name, is_nil}
 use Rattle.model_prims.specs.Numbers.{in_range, power_in_range, shift_in_range}
 use Rattle.model_prims.specs.Lists.{updated}
@@ -16,7 +16,7 @@ use Rattle.model_lists.specs.Lists.{ObjectList, Value, Pairs, End, Item, as_obje
 use Rattle.model_lists.specs.Layouts.{initial, recognizes}
 use Rattle.model_terms.specs.Worlds.{World, Definition, FunctionOfAbstract, AbstractDescriptor, Out, Ordinary, definition, Primitive, Defined, Macro, Constant, Concrete, Generated, Abstract, OfAbstract, Named, Signed}
 use Rattle.model_terms.specs.Worlds as worlds
-use Rattle.model_eval.specs.Outcomes.{Shown, Plain, Stobj, Objects, Stop, Guard, Range, Large, State, Ended, Gives, Stops, Unknown}
+use Rattle.model_eval.specs.Outcomes.{Shown, Plain, Stobj, Objects, Guard, Range, Large, State, Ended, Gives, Stops, Unknown}
 use Rattle.model_eval.specs.Scopes.{ordinary, first_object, list_of, with_list}
 use Rattle.model_eval.specs.Worlds.{object_layout}
 use Rattle.model_eval.specs.Evaluated.{Rules, Evaluator, evaluated}

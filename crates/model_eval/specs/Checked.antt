@@ -1,14 +1,14 @@
 -- Checked evaluation: every guard, every bound and every limit, symbols by number.
-use Rattle.std.specs.Prelude.{ℕ, List, [], ◌∷◌, map, Option, Some, None}
+use Rattle.std.specs.Prelude.{ℕ, List, [], ◌∷◌, map, Some, None}
 use Rattle.model_objects.specs.Object.{Object}
-use Rattle.model_symbols.specs.Symbols.{QualifiedName, Package, Table}
+use Rattle.model_symbols.specs.Symbols.{QualifiedName, Package}
 use Rattle.model_prims.specs.Kinds.{by_number}
 use Rattle.model_prims.specs.Applied.{Applied, applied}
 use Rattle.model_prims.specs.Applied as prims
 use Rattle.model_prims.specs.declared.prim.Prim.{Prim}
 use Rattle.model_lists.specs.Layouts.{initial}
 use Rattle.model_terms.specs.Worlds.{World, FunctionOfAbstract}
-use Rattle.model_eval.specs.Outcomes.{Shown, Plain, Stobj, Objects, Stop, Guard, Range, Large, Symbols, State, Ended, Gives, Stops, Unknown, counting}
+use Rattle.model_eval.specs.Outcomes.{Shown, Plain, Stobj, Objects, Guard, Range, Large, Symbols, State, Ended, Gives, Stops, Unknown, counting}
 use Rattle.model_eval.specs.Scopes.{Variables, ordinary}
 use Rattle.model_eval.specs.Worlds.{object_layout}
 use Rattle.model_eval.specs.Evaluated.{Rules, Evaluator, evaluated}

@@ -1,12 +1,12 @@
 -- The children that a `STOBJ-LET` binds.
-use Rattle.std.specs.Prelude.{ℕ, ◌+◌, List, [], ◌∷◌, ◌++◌, length, drop, map, Bool, true, false, ◌&&◌, ◌||◌, Option, Some, None, nat_eq, unwrap_or}
+use Rattle.std.specs.Prelude.{ℕ, List, [], ◌∷◌, ◌++◌, length, drop, Bool, true, false, ◌&&◌, ◌||◌, Option, Some, None, nat_eq, unwrap_or}
 use Rattle.std.specs.List.{list_any}
 use Rattle.model_objects.specs.Object.{Object}
 use Rattle.model_prims.specs.Kinds.{SymbolKind, same_object}
 use Rattle.model_prims.specs.Numbers.{natural_of}
 use Rattle.model_lists.specs.Lists.{ObjectList, size, item, with_item}
 use Rattle.model_lists.specs.Generated.{is_index}
-use Rattle.model_terms.specs.Worlds.{World, Definition, GeneratedFunction, definition, Primitive, Defined, Macro, Constant, Concrete, Generated, Abstract, OfAbstract, Named, Signed}
+use Rattle.model_terms.specs.Worlds.{Definition, Primitive, Defined, Macro, Constant, Concrete, Generated, Abstract, OfAbstract, Named, Signed}
 use Rattle.model_eval.specs.Outcomes.{Shown, Plain, Stobj, Objects, State, Ended, Gives, Stops, Unknown}
 use Rattle.model_eval.specs.Scopes.{list_of, with_list}
 

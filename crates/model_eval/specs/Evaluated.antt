@@ -1,17 +1,16 @@
 -- Evaluation of core forms on lists, by recursion on how many more forms may be open. What checked and abstract evaluation
 -- do in different ways stands in a record of rules.
-use Rattle.std.specs.Prelude.{ℕ, zero, suc, ◌+◌, List, [], ◌∷◌, ◌++◌, length, map, Bool, true, false, Option, Some, None, nat_lt, nat_eq, if◌then◌else◌}
+use Rattle.std.specs.Prelude.{ℕ, zero, suc, List, [], ◌∷◌, ◌++◌, map, Bool, true, Option, Some, None, nat_eq, if◌then◌else◌}
 use Rattle.std.specs.List.{list_any}
 use Rattle.model_objects.specs.Object.{Object}
 use Rattle.model_prims.specs.Kinds.{SymbolKind, truth_of, is_nil}
 use Rattle.model_prims.specs.declared.prim.Prim.{Prim}
 use Rattle.model_lists.specs.Lists.{ObjectList, item}
-use Rattle.model_lists.specs.Layouts.{Layout}
 use Rattle.model_terms.specs.Cores.{Core, Cores, Reached, Var, Const, If, Let, Mv, MvLet, StobjLet, WithLocal, MustBeEqual, Call, none, more, reached}
-use Rattle.model_terms.specs.Worlds.{World, Definition, Function, FunctionOfAbstract, definition, Primitive, Defined, Macro, Constant, Concrete, Generated, Abstract, OfAbstract, Named, Signed}
+use Rattle.model_terms.specs.Worlds.{World, Definition, FunctionOfAbstract, definition, Primitive, Defined, Macro, Constant, Concrete, Generated, Abstract, OfAbstract, Named, Signed}
 use Rattle.model_terms.specs.declared.role.AbstractRole.{AbstractRole}
 use Rattle.model_terms.specs.declared.role.AbstractRole.TheVariants as abstract_role
-use Rattle.model_eval.specs.Outcomes.{Shown, Plain, Stobj, Stop, Guard, Steps, Depth, State, Ended, Gives, Stops, Unknown, then_with, with_state, counting}
+use Rattle.model_eval.specs.Outcomes.{Shown, Plain, Stobj, Guard, Depth, State, Ended, Gives, Stops, Unknown, then_with, with_state, counting}
 use Rattle.model_eval.specs.Scopes.{Variables, nothing, variable_in, bound, object_of, single, plain, list_of, inner_variables, inner_state, back}
 use Rattle.model_eval.specs.Worlds.{object_layout}
 use Rattle.model_eval.specs.Generated.{generated}

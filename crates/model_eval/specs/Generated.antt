@@ -4,12 +4,12 @@ use Rattle.model_objects.specs.Object.{Object}
 use Rattle.model_prims.specs.Kinds.{SymbolKind, truth_of}
 use Rattle.model_prims.specs.Applied.{argument}
 use Rattle.model_lists.specs.Lists.{ObjectList, End}
-use Rattle.model_lists.specs.Layouts.{Layout, NoField, field_layout, field_recognizes}
+use Rattle.model_lists.specs.Layouts.{Layout, field_layout, field_recognizes}
 use Rattle.model_lists.specs.Generated.{Effect, Refuses, Reads, Writes, reads, accessed, changed, measured, lengthened, hash_read, hash_bound, hash_looked_up, hash_put, hash_removed, hash_counted, hash_cleared}
 use Rattle.model_terms.specs.Worlds.{GeneratedFunction}
 use Rattle.model_terms.specs.declared.role.Role.{Role}
 use Rattle.model_terms.specs.declared.role.Role.TheVariants as role
-use Rattle.model_eval.specs.Outcomes.{Shown, Stobj, Objects, Stop, Guard, State, Ended, Gives, Stops}
+use Rattle.model_eval.specs.Outcomes.{Shown, Stobj, Objects, Guard, State, Ended, Gives, Stops}
 use Rattle.model_eval.specs.Scopes.{plain, ordinary, first_object, list_of, with_list}
 
 module _ {S : Type 0} (k : SymbolKind S) where

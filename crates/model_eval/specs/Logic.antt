@@ -1,16 +1,14 @@
 -- The logic value of a form: no guard, no bound on integers, weight or symbols, and a budget of calls. Symbols are named, and
 -- objects are lists in the variables.
-use Rattle.std.specs.Prelude.{◌≡◌, ℕ, zero, suc, ◌+◌, List, [], ◌∷◌, ◌++◌, length, map, Bool, true, false, Option, Some, None, nat_le, nat_eq, if◌then◌else◌}
+use Rattle.std.specs.Prelude.{◌≡◌, ℕ, zero, suc, ◌+◌, List, [], ◌∷◌, ◌++◌, length, Option, Some, None, nat_le, nat_eq, if◌then◌else◌}
 use Rattle.std.specs.List.{list_any}
 use Rattle.model_objects.specs.Object.{Object}
 use Rattle.model_symbols.specs.Symbols.{QualifiedName, Package, form_of}
 use Rattle.model_prims.specs.Kinds.{by_name, nil_of, is_nil}
 use Rattle.model_prims.specs.Lists.{element}
 use Rattle.model_prims.specs.Applied.{value_of}
-use Rattle.model_lists.specs.Lists.{as_object}
-use Rattle.model_lists.specs.Layouts.{Layout, initial}
 use Rattle.model_terms.specs.Cores.{Core, Cores, Reached, Var, Const, If, Let, Mv, MvLet, StobjLet, WithLocal, MustBeEqual, Call, none, more, reached}
-use Rattle.model_terms.specs.Worlds.{World, Definition, Function, definition, Primitive, Defined, Macro, Constant, Concrete, Generated, Abstract, OfAbstract, Named, Signed}
+use Rattle.model_terms.specs.Worlds.{World, Definition, definition, Primitive, Defined, Macro, Constant, Concrete, Generated, Abstract, OfAbstract, Named, Signed}
 use Rattle.model_eval.specs.Worlds.{object_layout}
 use Rattle.model_eval.specs.Children.{Loan, field_of}
 use Rattle.model_eval.specs.LogicFunctions.{as_list, logic_generated, child_object, with_child_object}

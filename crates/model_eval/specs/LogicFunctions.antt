@@ -2,8 +2,6 @@
 use Rattle.std.specs.Prelude.{ℕ, List, [], ◌∷◌, Option, Some, None, unwrap_or}
 use Rattle.model_objects.specs.Object.{Object, list_onto}
 use Rattle.model_prims.specs.Kinds.{SymbolKind, nil_of, truth_of}
-use Rattle.model_prims.specs.Numbers.{natural_of}
-use Rattle.model_prims.specs.Lists.{element, updated}
 use Rattle.model_prims.specs.Applied.{argument}
 use Rattle.model_lists.specs.Lists.{as_object}
 use Rattle.model_lists.specs.Layouts.{Layout, Scalar, Array, Hash, Children, NoField, Field, initial, field_layout, recognizes, field_recognizes}

@@ -1,5 +1,5 @@
 -- What evaluation takes from a world.
-use Rattle.std.specs.Prelude.{ℕ, zero, suc, List, [], ◌∷◌, Option, Some, None, unwrap_or, slice_get}
+use Rattle.std.specs.Prelude.{ℕ, zero, suc, List, [], ◌∷◌, Option, Some, None, unwrap_or}
 use Rattle.model_objects.specs.Object.{Object}
 use Rattle.model_lists.specs.Types.{ValueType, Anything, type_of}
 use Rattle.model_lists.specs.Layouts.{Layout, NoField}

@@ -1,20 +1,18 @@
 -- Evaluation in a world that has grown, with limits that may be larger, agrees unless a stop is excused.
-use Rattle.std.proofs.Common.{◌≡◌, ℕ, zero, suc, ◌+◌, ◌<◌, ◌≤◌, List, [], ◌∷◌, ◌++◌, length, map, Bool, true, false, Option, Some, None, refl, sym, ap, ◌∙◌, subst, arith, inl, inr}
+use Rattle.std.proofs.Common.{◌≡◌, ℕ, zero, suc, ◌≤◌, List, [], ◌∷◌, ◌++◌, Bool, true, false, Option, Some, None, refl, ap, arith, inl, inr}
 use Rattle.std.specs.Prelude.{nat_lt, nat_eq, if◌then◌else◌, ◌⊎◌}
 use Rattle.std.specs.List.{list_any}
-use Rattle.model_objects.specs.Object.{Object}
 use Rattle.model_lists.specs.Lists.{ObjectList, item}
-use Rattle.model_lists.specs.Layouts.{Layout}
 use Rattle.model_terms.specs.Cores.{Core, Cores, Reached, Var, Const, If, Let, Mv, MvLet, StobjLet, WithLocal, MustBeEqual, Call, none, more, reached}
-use Rattle.model_terms.specs.Worlds.{World, Definition, Function, FunctionOfAbstract, definition, Primitive, Defined, Macro, Constant, Concrete, Generated, Abstract, OfAbstract, Named, Signed}
+use Rattle.model_terms.specs.Worlds.{World, Definition, FunctionOfAbstract, definition, Primitive, Defined, Macro, Constant, Concrete, Generated, Abstract, OfAbstract, Named, Signed}
 use Rattle.model_terms.specs.declared.role.AbstractRole.{AbstractRole}
 use Rattle.model_terms.specs.declared.role.AbstractRole.TheVariants as abstract_role
-use Rattle.model_eval.specs.Outcomes.{Shown, Plain, Stobj, Stop, Guard, Steps, Depth, State, Ended, Gives, Stops, Unknown, then_with, with_state, one_more_call, counting}
+use Rattle.model_eval.specs.Outcomes.{Shown, Plain, Stobj, Stop, Steps, Depth, State, Ended, Gives, Stops, Unknown, then_with, with_state, one_more_call, counting}
 use Rattle.model_eval.specs.Scopes.{Variables, variable_in, bound, single, inner_variables, inner_state, back, list_of}
 use Rattle.model_eval.specs.Worlds.{object_layout}
 use Rattle.model_eval.specs.Generated.{generated}
-use Rattle.model_eval.specs.Children.{Loan, field_of, is_reached, loan_values, indices, are_twins, put_into_parent, without_innermost, returned}
-use Rattle.model_eval.specs.Evaluated.{Rules, Evaluator, is_false, scoped, guarded, refused, of_abstract, by_definition, exec_called, called, in_order, leaf, leaf_or, loan_of, borrowing, borrowed_from, borrowed, all_borrowed, put_back, lending, loaned_variables, producing, with_loans, with_fresh, opened, evaluated, stobj_let_word}
+use Rattle.model_eval.specs.Children.{Loan, is_reached, are_twins, put_into_parent, without_innermost, returned}
+use Rattle.model_eval.specs.Evaluated.{Rules, Evaluator, is_false, scoped, guarded, refused, of_abstract, by_definition, exec_called, called, in_order, leaf, leaf_or, loan_of, borrowing, borrowed_from, borrowed, all_borrowed, put_back, lending, loaned_variables, producing, with_loans, with_fresh, opened, evaluated}
 use Rattle.model_eval_laws.specs.Agreement.{Agrees, ReachedStands, Closed, AllClosed, AllReached, ClosedDefinition}
 
 module _ {S : Type 0} (Excused : Stop S → Type 0) where
@@ -96,7 +94,7 @@ module _ {S : Type 0} (Excused : Stop S → Type 0) where
       agrees_guarded : (ev eu : Evaluator S) (name : ℕ) (formals : List ℕ) (guard : Core) (values : List (Shown S)) (go to : State S → Ended S) → EvAgrees ev eu → Closed Stands guard → ToAgrees go to → ToAgrees (guarded r ev name formals guard values go) (guarded later_rules eu name formals guard values to)
       agrees_guarded ev eu name formals guard values go to h c k state =
           agrees_then _ _ _ _ (agrees_scoped ev eu formals values guard h c state)
-            (λ test after. agrees_if (is_false r test) _ _ _ _ (inr refl) (k after))
+          (λ test after. agrees_if (is_false r test) _ _ _ _ (inr refl) (k after))
 
       agrees_abstract : (ev eu : Evaluator S) (exec to : ℕ → State S → Ended S) (f : FunctionOfAbstract) (role : AbstractRole) (values : List (Shown S)) → EvAgrees ev eu → Closed Stands f.guard → ToAgrees (exec f.exec) (to f.exec) → ToAgrees (of_abstract r ev exec f role values) (of_abstract later_rules eu to f role values)
       agrees_abstract ev eu exec to f abstract_role.Recognizer values h c k state = refl
@@ -136,7 +134,7 @@ module _ {S : Type 0} (Excused : Stop S → Type 0) where
       unfolding called
       agrees_called ev eu name values h s state =
           agrees_counting state _ _
-            (agrees_named ev eu _ _ name values h s (λ f c. agrees_abstract ev eu (exec_called r ev values) (exec_called later_rules eu values) f f.role values h c.0 (agrees_exec ev eu values f.exec h c.1)))
+          (agrees_named ev eu _ _ name values h s (λ f c. agrees_abstract ev eu (exec_called r ev values) (exec_called later_rules eu values) f f.role values h c.0 (agrees_exec ev eu values f.exec h c.1)))
 
       -- ---- parts
 
@@ -148,7 +146,7 @@ module _ {S : Type 0} (Excused : Stop S → Type 0) where
       agrees_in_order ev eu none variables done go to h c k state = k done state
       agrees_in_order ev eu (more form forms) variables done go to h c k state =
           agrees_then _ _ _ _ (h form variables state c.0)
-            (λ values after. agrees_in_order ev eu forms variables (done ++ single r.kind values ∷ []) go to h c.1 k after)
+          (λ values after. agrees_in_order ev eu forms variables (done ++ single r.kind values ∷ []) go to h c.1 k after)
 
       -- ---- children
 
@@ -160,7 +158,7 @@ module _ {S : Type 0} (Excused : Stop S → Type 0) where
       agrees_borrowed_from child by (Plain o) variables go to c k state = inr refl
       agrees_borrowed_from child by (Stobj p) variables go to c k state =
           rw (g.definitions by.accessor c)
-            (agrees_counting state _ _ (agrees_borrowing by.accessor (loan_of r child p by variables) _ _ (k (loan_of r child p by variables))))
+          (agrees_counting state _ _ (agrees_borrowing by.accessor (loan_of r child p by variables) _ _ (k (loan_of r child p by variables))))
 
       agrees_borrowed : (child : ℕ) (by : Option Reached) (variables : Variables S) (go to : Loan S → State S → Ended S) → ReachedStands Stands by → ((loan : Loan S) → ToAgrees (go loan) (to loan)) → ToAgrees (borrowed r child by variables go) (borrowed later_rules child by variables to)
       agrees_borrowed child None variables go to c k state = inr refl
@@ -172,26 +170,26 @@ module _ {S : Type 0} (Excused : Stop S → Type 0) where
       agrees_all_borrowed [] (more form forms) variables loans go to c k state = k loans state
       agrees_all_borrowed (x ∷ xs) (more form forms) variables loans go to c k state =
           agrees_borrowed x (reached form) variables _ _ c.0
-            (λ loan after. agrees_all_borrowed xs forms variables (loans ++ loan ∷ []) go to c.1 k after) state
+          (λ loan after. agrees_all_borrowed xs forms variables (loans ++ loan ∷ []) go to c.1 k after) state
 
       agrees_put_back : (vars : List ℕ) (loans : List (Loan S)) (go to : State S → Ended S) → ToAgrees go to → ToAgrees (put_back r vars loans go) (put_back later_rules vars loans to)
       unfolding put_back
       agrees_put_back vars [] go to k state = k state
       agrees_put_back vars (l ∷ ls) go to k state =
           agrees_if (list_any (nat_eq l.child) vars) _ _ _ _
-            (agrees_counting state _ _ (λ after. agrees_put_back vars ls go to k (record after { objects = put_into_parent l after.objects })))
-            (agrees_put_back vars ls go to k state)
+          (agrees_counting state _ _ (λ after. agrees_put_back vars ls go to k (record after { objects = put_into_parent l after.objects })))
+          (agrees_put_back vars ls go to k state)
 
       agrees_producing : (ev eu : Evaluator S) (vars : List ℕ) (producer : Core) (variables : Variables S) (loans : List (Loan S)) → EvAgrees ev eu → Closed Stands producer → ToAgrees (producing r ev vars producer variables loans) (producing later_rules eu vars producer variables loans)
       agrees_producing ev eu vars producer variables loans h c state =
           agrees_returned loans _ _
-            (agrees_then _ _ _ _ (h producer (loaned_variables r loans variables) (lending r loans state) c)
-              (λ values after. agrees_put_back vars loans _ _ (λ last. refl) after))
+          (agrees_then _ _ _ _ (h producer (loaned_variables r loans variables) (lending r loans state) c)
+          (λ values after. agrees_put_back vars loans _ _ (λ last. refl) after))
 
       agrees_with_loans : (ev eu : Evaluator S) (vars : List ℕ) (producer consumer : Core) (variables : Variables S) (loans : List (Loan S)) → EvAgrees ev eu → Closed Stands producer → Closed Stands consumer → ToAgrees (with_loans r ev vars producer consumer variables loans) (with_loans later_rules eu vars producer consumer variables loans)
       agrees_with_loans ev eu vars producer consumer variables loans h c d state =
           agrees_if (are_twins r.kind loans) _ _ _ _ (inr refl)
-            (agrees_then _ _ _ _ (agrees_producing ev eu vars producer variables loans h c state) (λ values after. h consumer (bound vars values variables) after d))
+          (agrees_then _ _ _ _ (agrees_producing ev eu vars producer variables loans h c state) (λ values after. h consumer (bound vars values variables) after d))
 
       -- ---- local objects
 
@@ -219,8 +217,8 @@ module _ {S : Type 0} (Excused : Stop S → Type 0) where
           agrees_all_borrowed names forms variables [] _ _ c.0 (λ loans. agrees_with_loans ev eu vars producer consumer variables loans h c.1 c.2) state
       agrees_opened ev eu h (WithLocal object names producer body) variables state c =
           rw (g.freshly object c.0)
-            (agrees_then _ _ _ _ (agrees_counting state _ _ (agrees_fresh ev eu object (r.fresh object) producer variables h c.1))
-              (λ values after. h body (bound names values variables) after c.2))
+          (agrees_then _ _ _ _ (agrees_counting state _ _ (agrees_fresh ev eu object (r.fresh object) producer variables h c.1))
+          (λ values after. h body (bound names values variables) after c.2))
       agrees_opened ev eu h (MustBeEqual logic exec) variables state c = h logic variables state c
       agrees_opened ev eu h (Call f actuals) variables state c =
           agrees_in_order ev eu actuals variables [] _ _ h c.1 (λ values. agrees_called ev eu f values h c.0) state
@@ -244,4 +242,4 @@ module _ {S : Type 0} (Excused : Stop S → Type 0) where
       agrees_deeper x (suc d) zero q form variables state c = absurd (omega arith)
       agrees_deeper x (suc d) (suc e) q form variables state c =
           agrees_leaf (leaf r form variables) state _ _
-            (agrees_opened (evaluated r d) (evaluated later_rules e) (agrees_deeper x d e (omega arith)) form variables state c)
+          (agrees_opened (evaluated r d) (evaluated later_rules e) (agrees_deeper x d e (omega arith)) form variables state c)

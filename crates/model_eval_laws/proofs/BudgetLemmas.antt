@@ -1,14 +1,12 @@
 -- A budget that suffices is as good as a larger one.
-use Rattle.std.proofs.Common.{◌≡◌, ℕ, zero, suc, ◌+◌, ◌<◌, ◌≤◌, List, [], ◌∷◌, ◌++◌, length, Bool, true, false, Option, Some, None, refl, sym, ap, ◌∙◌, arith, inl, inr}
+use Rattle.std.proofs.Common.{◌≡◌, ℕ, zero, suc, ◌+◌, ◌≤◌, List, [], ◌∷◌, ◌++◌, length, Bool, true, false, Option, Some, None, refl, sym, ap, ◌∙◌, arith, inl, inr}
 use Rattle.std.specs.Prelude.{nat_le, if◌then◌else◌}
 use Rattle.std.proofs.lemmas.Bool.Decides.{nat_tests}
 use Rattle.std.proofs.lemmas.Bool.{cases_lt}
-use Rattle.model_symbols.specs.Symbols.{QualifiedName}
 use Rattle.model_prims.specs.Kinds.{by_name, is_nil}
 use Rattle.model_terms.specs.Cores.{Core, Cores, Var, Const, If, Let, Mv, MvLet, StobjLet, WithLocal, MustBeEqual, Call, none, more}
-use Rattle.model_terms.specs.Worlds.{World, Definition, definition, Primitive, Defined, Macro, Constant, Concrete, Generated, Abstract, OfAbstract, Named, Signed}
-use Rattle.model_eval.specs.Children.{Loan}
-use Rattle.model_eval.specs.Logic.{Book, Thing, Values, Found, then_found, found, bind, bind_others, elements, parts_for, Caller, spending, creator_of, logic_loans, with_children, put_loans, with_parent, form_value, form_values, defined_value, logic_of_abstract, call_within, logic_call, logic, EndsWith, CallEndsWith}
+use Rattle.model_terms.specs.Worlds.{Definition, definition, Primitive, Defined, Macro, Constant, Concrete, Generated, Abstract, OfAbstract, Named, Signed}
+use Rattle.model_eval.specs.Logic.{Book, Thing, Values, Found, then_found, found, bind, bind_others, elements, parts_for, Caller, spending, creator_of, logic_loans, with_children, put_loans, with_parent, form_value, form_values, defined_value, logic_of_abstract, call_within, logic_call, logic}
 use Rattle.model_eval_laws.specs.Budgets.{IsSameAtLargerBudgets}
 
 -- the second is the first, where the first is a value
@@ -97,7 +95,7 @@ module _ (b : Book) (k l : ℕ) (larger : k ≤ l) where
   more_call (suc n) zero h name args calls = absurd (omega arith)
   more_call (suc n) (suc m) h name args calls =
       more_spending 1 calls _ _
-        (more_defined (call_within b k n) (call_within b l m) (more_call n m (omega arith)) _ _ (more_abstract (call_within b k n) (call_within b l m) (more_call n m (omega arith))) (definition b.world name) args)
+      (more_defined (call_within b k n) (call_within b l m) (more_call n m (omega arith)) _ _ (more_abstract (call_within b k n) (call_within b l m) (more_call n m (omega arith))) (definition b.world name) args)
 
   more_logic : (form : Core) (values : Values) → More (logic b k form values) (logic b l form values)
   more_logic form values = more_form (logic_call b k) (logic_call b l) (more_call k l larger) form values 0

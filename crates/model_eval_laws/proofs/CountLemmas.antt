@@ -1,26 +1,23 @@
 -- The rules of checked evaluation count.
-use Rattle.std.proofs.Common.{◌≡◌, ℕ, zero, suc, ◌+◌, ◌<◌, ◌≤◌, List, [], ◌∷◌, ◌++◌, Bool, true, false, Option, Some, None, refl, sym, ap, ◌∙◌, arith}
+use Rattle.std.proofs.Common.{◌≡◌, ℕ, ◌<◌, List, [], ◌∷◌, ◌++◌, Bool, true, false, Option, Some, None, refl, sym, arith}
 use Rattle.std.specs.Prelude.{nat_lt, nat_le, ℤ, if◌then◌else◌}
-use Rattle.std.proofs.lemmas.List.{append_assoc, append-nil}
+use Rattle.std.proofs.lemmas.List.{append-nil}
 use Rattle.std.proofs.lemmas.Bool.{ltb-true}
 use Rattle.model_objects.specs.Object.{Object, Symbol, weight, max_weight}
-use Rattle.model_symbols.specs.Symbols.{QualifiedName, Package, Table, is_known, interned, is_one_too_many}
+use Rattle.model_symbols.specs.Symbols.{QualifiedName, Package, Table, is_known, is_one_too_many}
 use Rattle.model_prims.specs.Kinds.{by_number}
 use Rattle.model_prims.specs.Numbers.{in_range, power_in_range, shift_in_range}
 use Rattle.model_prims.specs.Lists.{updated}
-use Rattle.model_prims.specs.Guards.{guard}
-use Rattle.model_prims.specs.Values.{Wanted, Old, Number, Made, Power, Shift, Update, Interned, wanted}
+use Rattle.model_prims.specs.Values.{Wanted, Old, Number, Made, Power, Shift, Update, Interned}
 use Rattle.model_prims.specs.Applied.{Applied, applied, applied_to, argument, bounded, guarded, number_or, weighed, updated_by, interned_or, beside, number_then}
 use Rattle.model_prims.specs.Applied as prims
 use Rattle.model_prims.specs.declared.prim.Prim.{Prim}
-use Rattle.model_terms.specs.Cores.{Core}
 use Rattle.model_terms.specs.Worlds.{World, FunctionOfAbstract}
-use Rattle.model_eval.specs.Outcomes.{Shown, Stop, Guard, Steps, Depth, State, Ended, Gives, Stops, Unknown, counting, one_more_call}
-use Rattle.model_eval.specs.Scopes.{Variables, ordinary}
-use Rattle.model_eval.specs.Evaluated.{Rules, evaluated}
-use Rattle.model_eval.specs.Checked.{checked, checked_rules, checked_export, checked_primitive, primitive_ended, inside}
-use Rattle.model_eval_laws.specs.Counting.{Grown, Counts, HasObjects, CountsCalls}
-use Rattle.model_eval_laws.proofs.Counts.{grown_same, GoCounts, counts_counting, not_less, RulesCount, counts_evaluated, stays_evaluated}
+use Rattle.model_eval.specs.Outcomes.{Shown, Steps, State, Ended, Gives, Stops, Unknown, one_more_call}
+use Rattle.model_eval.specs.Scopes.{ordinary}
+use Rattle.model_eval.specs.Checked.{checked_rules, checked_export, primitive_ended, inside}
+use Rattle.model_eval_laws.specs.Counting.{Grown, Counts, CountsCalls}
+use Rattle.model_eval_laws.proofs.Counts.{grown_same, GoCounts, not_less, RulesCount, counts_evaluated, stays_evaluated}
 
 -- ---- primitives
 

@@ -1,25 +1,23 @@
 -- An evaluation counts calls up to its limit.
-use Rattle.std.proofs.Common.{◌≡◌, ℕ, zero, suc, ◌+◌, ◌<◌, ◌≤◌, List, [], ◌∷◌, ◌++◌, length, drop, Bool, true, false, Option, Some, None, refl, sym, ap, ◌∙◌, arith}
+use Rattle.std.proofs.Common.{◌≡◌, ℕ, zero, suc, ◌<◌, ◌≤◌, List, [], ◌∷◌, ◌++◌, drop, Bool, true, false, Option, Some, None, refl, sym, ap, ◌∙◌, arith}
 use Rattle.std.specs.Prelude.{nat_lt, nat_eq, if◌then◌else◌}
 use Rattle.std.specs.List.{list_any}
 use Rattle.std.proofs.lemmas.List.{append_assoc, append-nil}
 use Rattle.std.proofs.lemmas.Bool.{ltb-true}
 use Rattle.std.proofs.lemmas.Bool.Decides.{nat_tests}
-use Rattle.model_objects.specs.Object.{Object}
 use Rattle.model_symbols.specs.Symbols.{QualifiedName}
 use Rattle.model_prims.specs.declared.prim.Prim.{Prim}
 use Rattle.model_lists.specs.Lists.{ObjectList, item}
 use Rattle.model_lists.specs.Generated.{Effect, Refuses, Reads, Writes}
 use Rattle.model_terms.specs.Cores.{Core, Cores, Reached, Var, Const, If, Let, Mv, MvLet, StobjLet, WithLocal, MustBeEqual, Call, none, more, reached}
-use Rattle.model_terms.specs.Worlds.{World, Definition, Function, FunctionOfAbstract, definition, Primitive, Defined, Macro, Constant, Concrete, Generated, Abstract, OfAbstract, Named, Signed}
+use Rattle.model_terms.specs.Worlds.{Definition, FunctionOfAbstract, definition, Primitive, Defined, Macro, Constant, Concrete, Generated, Abstract, OfAbstract, Named, Signed}
 use Rattle.model_terms.specs.declared.role.AbstractRole.{AbstractRole}
 use Rattle.model_terms.specs.declared.role.AbstractRole.TheVariants as abstract_role
-use Rattle.model_eval.specs.Outcomes.{Shown, Plain, Stobj, Stop, Guard, Steps, Depth, Range, Large, Symbols, Objects, State, Ended, Gives, Stops, Unknown, then_with, with_state, one_more_call, counting}
+use Rattle.model_eval.specs.Outcomes.{Shown, Plain, Stobj, Guard, Steps, Depth, Objects, State, Ended, Gives, Stops, Unknown, then_with, with_state, one_more_call, counting}
 use Rattle.model_eval.specs.Scopes.{Variables, variable_in, bound, single, inner_variables, inner_state, back, list_of}
 use Rattle.model_eval.specs.Generated.{effected}
-use Rattle.model_eval.specs.Children.{Loan, is_reached, loan_values, indices, are_twins, put_into_parent, without_innermost, returned}
-use Rattle.model_eval.specs.Evaluated.{Rules, Evaluator, is_false, scoped, guarded, refused, of_abstract, by_definition, exec_called, called, in_order, leaf, leaf_or, loan_of, borrowing, borrowed_from, borrowed, all_borrowed, put_back, lending, loaned_variables, producing, with_loans, with_fresh, opened, evaluated, stobj_let_word}
-use Rattle.model_eval_laws.specs.Laws.{IsSteps}
+use Rattle.model_eval.specs.Children.{Loan, is_reached, loan_values, indices, are_twins, put_into_parent, returned}
+use Rattle.model_eval.specs.Evaluated.{Rules, Evaluator, is_false, scoped, guarded, of_abstract, by_definition, exec_called, called, in_order, leaf, leaf_or, loan_of, borrowing, borrowed_from, borrowed, all_borrowed, put_back, lending, loaned_variables, producing, with_loans, with_fresh, opened, evaluated, stobj_let_word}
 use Rattle.model_eval_laws.specs.Counting.{Grown, Counts, HasObjects}
 
 longer_then : (a b c : List QualifiedName) → (xs : List QualifiedName) × (b ≡ a ++ xs) → (ys : List QualifiedName) × (c ≡ b ++ ys) → (zs : List QualifiedName) × (c ≡ a ++ zs)
@@ -160,7 +158,7 @@ module _ {S : Type 0} (r : Rules S) where
     counts_guarded : (ev : Evaluator S) (name : ℕ) (formals : List ℕ) (guard : Core) (values : List (Shown S)) (go : State S → Ended S) → EvCounts ev → GoCounts r.limit go → GoCounts r.limit (guarded r ev name formals guard values go)
     counts_guarded ev name formals guard values go h k state =
         counts_then r.limit state _ _ (counts_scoped ev formals values guard h state)
-          (λ test after. counts_if r.limit after (is_false r test) _ _ (stopped after name values) (k after))
+        (λ test after. counts_if r.limit after (is_false r test) _ _ (stopped after name values) (k after))
 
     counts_abstract : (ev : Evaluator S) (exec : ℕ → State S → Ended S) (f : FunctionOfAbstract) (role : AbstractRole) (values : List (Shown S)) → EvCounts ev → GoCounts r.limit (exec f.exec) → GoCounts r.limit (of_abstract r ev exec f role values)
     counts_abstract ev exec f abstract_role.Recognizer values h k state = grown_same r.limit state
@@ -197,7 +195,7 @@ module _ {S : Type 0} (r : Rules S) where
     unfolding called
     counts_called ev name values h state =
         counts_counting r.limit state _
-          (counts_definition ev _ (definition r.world name) name values h (λ f. counts_abstract ev (exec_called r ev values) f f.role values h (counts_exec ev values f.exec h)))
+        (counts_definition ev _ (definition r.world name) name values h (λ f. counts_abstract ev (exec_called r ev values) f f.role values h (counts_exec ev values f.exec h)))
 
     stays_called : (ev : Evaluator S) (name : ℕ) (values : List (Shown S)) (state : State S) → Stays r.limit state (called r ev name values state)
     unfolding called
@@ -211,14 +209,14 @@ module _ {S : Type 0} (r : Rules S) where
     counts_in_order ev none variables done go h k state = k done state
     counts_in_order ev (more form forms) variables done go h k state =
         counts_then r.limit state _ _ (h form variables state)
-          (λ values after. counts_in_order ev forms variables (done ++ single r.kind values ∷ []) go h k after)
+        (λ values after. counts_in_order ev forms variables (done ++ single r.kind values ∷ []) go h k after)
 
     stays_in_order : (ev : Evaluator S) (forms : Cores) (variables : Variables S) (done : List (Shown S)) (go : List (Shown S) → State S → Ended S) → EvCounts ev → EvStays ev → ((values : List (Shown S)) (s : State S) → Stays r.limit s (go values s)) → (state : State S) → Stays r.limit state (in_order r ev forms variables done go state)
     unfolding in_order
     stays_in_order ev none variables done go c h k state = k done state
     stays_in_order ev (more form forms) variables done go c h k state =
         stays_then r.limit state _ _ (c form variables state) (h form variables state)
-          (λ values after. stays_in_order ev forms variables (done ++ single r.kind values ∷ []) go c h k after)
+        (λ values after. stays_in_order ev forms variables (done ++ single r.kind values ∷ []) go c h k after)
 
     -- ---- children
 
@@ -227,7 +225,7 @@ module _ {S : Type 0} (r : Rules S) where
     counts_borrowed_from child by (Stobj p) variables go k state =
         let loan = loan_of r child p by variables in
         counts_counting r.limit state (borrowing r by.accessor loan (go loan))
-          (λ after. counts_if r.limit after (is_reached loan.index (item loan.field (list_of after.objects loan.parent))) (go loan after) (Stops (Guard by.accessor (loan_values loan)) None after) (k loan after) (stopped after by.accessor (loan_values loan)))
+        (λ after. counts_if r.limit after (is_reached loan.index (item loan.field (list_of after.objects loan.parent))) (go loan after) (Stops (Guard by.accessor (loan_values loan)) None after) (k loan after) (stopped after by.accessor (loan_values loan)))
 
     counts_borrowed : (child : ℕ) (by : Option Reached) (variables : Variables S) (go : Loan S → State S → Ended S) → ((loan : Loan S) → GoCounts r.limit (go loan)) → GoCounts r.limit (borrowed r child by variables go)
     counts_borrowed child None variables go k state = deep state
@@ -260,19 +258,19 @@ module _ {S : Type 0} (r : Rules S) where
     counts_put_back vars [] go k state = k state
     counts_put_back vars (l ∷ ls) go k state =
         counts_if r.limit state (list_any (nat_eq l.child) vars) _ _
-          (counts_counting r.limit state _ (λ after. counts_objects r.limit after _ _ (counts_put_back vars ls go k (record after { objects = put_into_parent l after.objects }))))
-          (counts_put_back vars ls go k state)
+        (counts_counting r.limit state _ (λ after. counts_objects r.limit after _ _ (counts_put_back vars ls go k (record after { objects = put_into_parent l after.objects }))))
+        (counts_put_back vars ls go k state)
 
     counts_producing : (ev : Evaluator S) (vars : List ℕ) (producer : Core) (variables : Variables S) (loans : List (Loan S)) → EvCounts ev → GoCounts r.limit (producing r ev vars producer variables loans)
     counts_producing ev vars producer variables loans h state =
         counts_returned r.limit loans state _ _
-          (counts_then r.limit (lending r loans state) _ _ (h producer (loaned_variables r loans variables) (lending r loans state))
-            (λ values after. counts_put_back vars loans _ (λ last. grown_same r.limit last) after))
+        (counts_then r.limit (lending r loans state) _ _ (h producer (loaned_variables r loans variables) (lending r loans state))
+        (λ values after. counts_put_back vars loans _ (λ last. grown_same r.limit last) after))
 
     counts_with_loans : (ev : Evaluator S) (vars : List ℕ) (producer consumer : Core) (variables : Variables S) (loans : List (Loan S)) → EvCounts ev → GoCounts r.limit (with_loans r ev vars producer consumer variables loans)
     counts_with_loans ev vars producer consumer variables loans h state =
         counts_if r.limit state (are_twins r.kind loans) _ _ (stopped state stobj_let_word (indices loans))
-          (counts_then r.limit state _ _ (counts_producing ev vars producer variables loans h state) (λ values after. h consumer (bound vars values variables) after))
+        (counts_then r.limit state _ _ (counts_producing ev vars producer variables loans h state) (λ values after. h consumer (bound vars values variables) after))
 
     -- nothing is lent
     stays_without_loans : (ev : Evaluator S) (vars : List ℕ) (producer consumer : Core) (variables : Variables S) → EvCounts ev → EvStays ev → (state : State S) → Stays r.limit state (with_loans r ev vars producer consumer variables [] state)
@@ -308,7 +306,7 @@ module _ {S : Type 0} (r : Rules S) where
         counts_all_borrowed names forms variables [] _ (λ loans. counts_with_loans ev vars producer consumer variables loans h) state
     counts_opened ev h (WithLocal object names producer body) variables state =
         counts_then r.limit state _ _ (counts_counting r.limit state _ (counts_fresh ev object (r.fresh object) producer variables h))
-          (λ values after. h body (bound names values variables) after)
+        (λ values after. h body (bound names values variables) after)
     counts_opened ev h (MustBeEqual logic exec) variables state = h logic variables state
     counts_opened ev h (Call f actuals) variables state = counts_in_order ev actuals variables [] _ h (λ values. counts_called ev f values h) state
 
@@ -326,7 +324,7 @@ module _ {S : Type 0} (r : Rules S) where
         stays_all_borrowed names forms variables [] _ (stays_without_loans ev vars producer consumer variables c h) state
     stays_opened ev c h (WithLocal object names producer body) variables state =
         stays_then r.limit state _ _ (counts_counting r.limit state _ (counts_fresh ev object (r.fresh object) producer variables c))
-          (stays_counting r.limit state (with_fresh r ev object (r.fresh object) producer variables)) (λ values after. h body (bound names values variables) after)
+        (stays_counting r.limit state (with_fresh r ev object (r.fresh object) producer variables)) (λ values after. h body (bound names values variables) after)
     stays_opened ev c h (MustBeEqual logic exec) variables state = h logic variables state
     stays_opened ev c h (Call f actuals) variables state = stays_in_order ev actuals variables [] _ c h (λ values after. stays_called ev f values after) state
 

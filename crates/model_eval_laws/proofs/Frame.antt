@@ -1,25 +1,24 @@
 -- An evaluation leaves the objects that no variable has.
-use Rattle.std.proofs.Common.{◌≡◌, ℕ, zero, suc, ◌+◌, ◌<◌, ◌≤◌, List, [], ◌∷◌, ◌++◌, length, map, drop, Bool, true, false, Option, Some, None, refl, sym, ap, ◌∙◌, subst, arith}
+use Rattle.std.proofs.Common.{◌≡◌, ℕ, zero, suc, List, [], ◌∷◌, ◌++◌, length, map, drop, Bool, true, false, Option, Some, None, refl, sym, ap, ◌∙◌, subst}
 use Rattle.std.specs.Prelude.{nat_lt, nat_eq, if◌then◌else◌}
 use Rattle.std.specs.List.{list_any}
 use Rattle.std.proofs.lemmas.List.{append_assoc}
-use Rattle.model_objects.specs.Object.{Object}
 use Rattle.model_prims.specs.declared.prim.Prim.{Prim}
 use Rattle.model_lists.specs.Lists.{ObjectList, item}
-use Rattle.model_lists.specs.Layouts.{Layout, field_layout}
+use Rattle.model_lists.specs.Layouts.{Layout}
 use Rattle.model_lists.specs.Generated.{Effect, Refuses, Reads, Writes}
 use Rattle.model_terms.specs.Cores.{Core, Cores, Reached, Var, Const, If, Let, Mv, MvLet, StobjLet, WithLocal, MustBeEqual, Call, none, more, reached}
-use Rattle.model_terms.specs.Worlds.{World, Definition, Function, GeneratedFunction, FunctionOfAbstract, definition, Primitive, Defined, Macro, Constant, Concrete, Generated, Abstract, OfAbstract, Named, Signed}
+use Rattle.model_terms.specs.Worlds.{Definition, GeneratedFunction, FunctionOfAbstract, definition, Primitive, Defined, Macro, Constant, Concrete, Generated, Abstract, OfAbstract, Named, Signed}
 use Rattle.model_terms.specs.declared.role.AbstractRole.{AbstractRole}
 use Rattle.model_terms.specs.declared.role.AbstractRole.TheVariants as abstract_role
 use Rattle.model_eval.specs.Outcomes.{Shown, Plain, Stobj, Stop, Guard, Steps, Depth, Objects, State, Ended, Gives, Stops, Unknown, then_with, with_state, one_more_call, counting}
-use Rattle.model_eval.specs.Scopes.{Variables, variable_in, bound, single, plain, ordinary, first_object, list_of, with_list, inner_variables, inner_objects, inner_state, handed_back, outer_value, outer_state, back}
+use Rattle.model_eval.specs.Scopes.{Variables, variable_in, bound, single, first_object, list_of, inner_variables, inner_objects, inner_state, outer_value, back}
 use Rattle.model_eval.specs.Worlds.{object_layout}
-use Rattle.model_eval.specs.Generated.{effect, effected, list_or_none, generated}
-use Rattle.model_eval.specs.Children.{Loan, is_reached, loan_values, indices, are_twins, lent, put_into_parent, all_put, without_innermost, returned}
-use Rattle.model_eval.specs.Evaluated.{Rules, Evaluator, is_false, scoped, guarded, refused, of_abstract, by_definition, exec_called, called, in_order, leaf, leaf_or, loan_of, borrowing, borrowed_from, borrowed, all_borrowed, put_back, lending, loaned_variables, producing, with_loans, with_fresh, opened, evaluated, stobj_let_word}
+use Rattle.model_eval.specs.Generated.{effected, generated}
+use Rattle.model_eval.specs.Children.{Loan, is_reached, are_twins, lent, put_into_parent, all_put, without_innermost, returned}
+use Rattle.model_eval.specs.Evaluated.{Rules, Evaluator, is_false, scoped, guarded, of_abstract, by_definition, exec_called, called, in_order, leaf, leaf_or, loan_of, borrowing, borrowed_from, borrowed, all_borrowed, put_back, lending, loaned_variables, producing, with_loans, with_fresh, opened, evaluated}
 use Rattle.model_eval_laws.specs.Scope.{names, is_among, InScope, AllInScope, widened, HasNames}
-use Rattle.model_eval_laws.proofs.Lists.{same_number, among_more, among_first, ValuesIn, scope_more, variables_more, scope_variable, scope_bound, values_append, values_plain, list_widened, write_widened, names_write, handed_widened, back_widened, names_back, scope_inner, values_outer, OptionIn, scope_first, option_widened, children, LoansIn, KidsIn, loans_append, kids_in, lent_widened, names_append, names_lent, put_widened, names_put, all_put_widened, names_all_put, drop_widened, names_drop, length_children}
+use Rattle.model_eval_laws.proofs.Lists.{same_number, among_first, ValuesIn, variables_more, scope_variable, scope_bound, values_append, values_plain, list_widened, write_widened, names_write, handed_widened, back_widened, names_back, scope_inner, values_outer, OptionIn, scope_first, option_widened, children, LoansIn, KidsIn, loans_append, kids_in, lent_widened, names_append, names_lent, put_widened, names_put, all_put_widened, names_all_put, drop_widened, names_drop, length_children}
 
 -- the values of an outcome are in scope
 abbrev pub HasValues : {S : Type 0} → List ℕ → Ended S → Type 0
@@ -123,12 +122,12 @@ module _ {S : Type 0} (others : Objects S) where
       framed_scoped ev ns formals values form h v state e =
           let inner = h form (inner_variables formals values) (names (inner_objects formals values state.objects)) (scope_inner formals values state.objects) (inner_state formals values state) refl in
           rw (same_inner ns formals values state e v)
-            (framed_back ns formals values state (ev form (inner_variables formals values) (inner_state formals values state)) e v inner.kept inner.values)
+          (framed_back ns formals values state (ev form (inner_variables formals values) (inner_state formals values state)) e v inner.kept inner.values)
 
       framed_guarded : (ev : Evaluator S) (ns : List ℕ) (name : ℕ) (formals : List ℕ) (guard : Core) (values : List (Shown S)) (go : State S → Ended S) → EvFramed ev → ValuesIn ns values → GoFramed ns go → GoFramed ns (guarded r ev name formals guard values go)
       framed_guarded ev ns name formals guard values go h v k state e =
           framed_then ns _ _ _ (loosely ns _ _ (framed_scoped ev ns formals values guard h v state e))
-            (λ test after q. framed_if ns (is_false r test) _ _ _ _ (framed_stop ns (Guard name values) None after q) (k after q))
+          (λ test after q. framed_if ns (is_false r test) _ _ _ _ (framed_stop ns (Guard name values) None after q) (k after q))
 
       framed_abstract : (ev : Evaluator S) (ns : List ℕ) (exec : ℕ → State S → Ended S) (f : FunctionOfAbstract) (role : AbstractRole) (values : List (Shown S)) → EvFramed ev → ValuesIn ns values → GoFramed ns (exec f.exec) → GoFramed ns (of_abstract r ev exec f role values)
       framed_abstract ev ns exec f abstract_role.Recognizer values h v k state e = framed_give ns _ state (tt, tt) e
@@ -152,7 +151,7 @@ module _ {S : Type 0} (others : Objects S) where
       framed_generated ns f layout values v state e =
           let i = scope_first ns values v in
           rw (option_widened r.kind state.objects others (first_object values) (subst (λ ms. OptionIn ms (first_object values)) (sym e) i))
-            (framed_effected ns f.name values (first_object values) state _ e i)
+          (framed_effected ns f.name values (first_object values) state _ e i)
 
       framed_definition : (ev : Evaluator S) (ns : List ℕ) (go : FunctionOfAbstract → State S → Ended S) (d : Option Definition) (name : ℕ) (values : List (Shown S)) → EvFramed ev → ValuesIn ns values → ((f : FunctionOfAbstract) → GoFramed ns (go f)) → GoFramed ns (by_definition r ev go d name values)
       framed_definition ev ns go None name values h v k state e = framed_stop ns _ None state e
@@ -177,7 +176,7 @@ module _ {S : Type 0} (others : Objects S) where
       unfolding called
       framed_called ev ns name values h v state e =
           framed_counting ns r.limit (by_definition r ev (λ f after. of_abstract r ev (exec_called r ev values) f f.role values after) (definition r.world name) name values)
-            (framed_definition ev ns _ (definition r.world name) name values h v (λ f. framed_abstract ev ns (exec_called r ev values) f f.role values h v (framed_exec ev ns values f.exec h v))) state e
+          (framed_definition ev ns _ (definition r.world name) name values h v (λ f. framed_abstract ev ns (exec_called r ev values) f f.role values h v (framed_exec ev ns values f.exec h v))) state e
 
       -- ---- parts
 
@@ -190,14 +189,14 @@ module _ {S : Type 0} (others : Objects S) where
       framed_in_order ev ns none variables done go h a v k state e = k done v state e
       framed_in_order ev ns (more form forms) variables done go h a v k state e =
           framed_with ns _ _ _ (h form variables ns a state e)
-            (λ values i after q. framed_in_order ev ns forms variables (done ++ single r.kind values ∷ []) go h a (values_append ns done (single r.kind values) v (scope_single ns values i)) k after q)
+          (λ values i after q. framed_in_order ev ns forms variables (done ++ single r.kind values ∷ []) go h a (values_append ns done (single r.kind values) v (scope_single ns values i)) k after q)
 
       -- ---- children
 
       framed_borrowing : (ns : List ℕ) (accessor : ℕ) (loan : Loan S) (go : State S → Ended S) → is_among loan.parent ns ≡ true → GoFramed ns go → GoFramed ns (borrowing r accessor loan go)
       framed_borrowing ns accessor loan go i k state e =
           rw (list_widened state.objects others loan.parent (ap (is_among loan.parent) e ∙ i))
-            (framed_if ns (is_reached loan.index (item loan.field (list_of state.objects loan.parent))) _ _ _ _ (k state e) (framed_stop ns _ None state e))
+          (framed_if ns (is_reached loan.index (item loan.field (list_of state.objects loan.parent))) _ _ _ _ (k state e) (framed_stop ns _ None state e))
 
       framed_borrowed_from : (ns : List ℕ) (child : ℕ) (by : Reached) (p : Shown S) (variables : Variables S) (go : Loan S → State S → Ended S) → InScope ns p → ((loan : Loan S) → is_among loan.parent ns ≡ true → GoFramed ns (go loan)) → GoFramed ns (borrowed_from r child by p variables go)
       framed_borrowed_from ns child by (Plain o) variables go i k state e = framed_stop ns _ None state e
@@ -216,24 +215,24 @@ module _ {S : Type 0} (others : Objects S) where
       framed_all_borrowed ns [] (more form forms) variables loans go a i k state e = k loans i state e
       framed_all_borrowed ns (x ∷ xs) (more form forms) variables loans go a i k state e =
           framed_borrowed ns x (reached form) variables _ a
-            (λ loan j after q. framed_all_borrowed ns xs forms variables (loans ++ loan ∷ []) go a (loans_append ns loans loan i j) k after q) state e
+          (λ loan j after q. framed_all_borrowed ns xs forms variables (loans ++ loan ∷ []) go a (loans_append ns loans loan i j) k after q) state e
 
       framed_put_back : (ns vars : List ℕ) (loans : List (Loan S)) (go : State S → Ended S) → KidsIn ns loans → GoFramed ns go → GoFramed ns (put_back r vars loans go)
       unfolding put_back
       framed_put_back ns vars [] go i k state e = k state e
       framed_put_back ns vars (l ∷ ls) go i k state e =
           framed_if ns (list_any (nat_eq l.child) vars) _ _ _ _
-            (framed_counting ns r.limit (λ after. put_back r vars ls go (record after { objects = put_into_parent l after.objects }))
-              (λ after q. rw (put_widened l after.objects others (ap (is_among l.child) q ∙ i.0) (ap (is_among l.parent) q ∙ i.1))
-                (framed_put_back ns vars ls go i.2 k (record after { objects = put_into_parent l after.objects }) (names_put l after.objects ∙ q))) state e)
-            (framed_put_back ns vars ls go i.2 k state e)
+          (framed_counting ns r.limit (λ after. put_back r vars ls go (record after { objects = put_into_parent l after.objects }))
+          (λ after q. rw (put_widened l after.objects others (ap (is_among l.child) q ∙ i.0) (ap (is_among l.parent) q ∙ i.1))
+          (framed_put_back ns vars ls go i.2 k (record after { objects = put_into_parent l after.objects }) (names_put l after.objects ∙ q))) state e)
+          (framed_put_back ns vars ls go i.2 k state e)
 
       -- the children's lists and the others
       lending_widened : (ns : List ℕ) (loans : List (Loan S)) (state : State S) → names state.objects ≡ ns → LoansIn ns loans → lending r loans (widened others state) ≡ widened others (lending r loans state)
       lending_widened ns loans state e i =
           ap (λ (os : Objects S). record state { objects = os })
-            (ap (λ (os : Objects S). os ++ (state.objects ++ others)) (lent_widened loans state.objects others (subst (λ ms. LoansIn ms loans) (sym e) i))
-            ∙ sym (append_assoc (lent loans state.objects) state.objects others))
+          (ap (λ (os : Objects S). os ++ (state.objects ++ others)) (lent_widened loans state.objects others (subst (λ ms. LoansIn ms loans) (sym e) i))
+          ∙ sym (append_assoc (lent loans state.objects) state.objects others))
 
       names_lending : (ns : List ℕ) (loans : List (Loan S)) (state : State S) → names state.objects ≡ ns → names (lent loans state.objects ++ state.objects) ≡ children loans ++ ns
       names_lending ns loans state e =
@@ -262,7 +261,7 @@ module _ {S : Type 0} (others : Objects S) where
           let still : names (all_put loans state.objects) ≡ children loans ++ ns = names_all_put loans state.objects ∙ h.kept in
           record {
             same = ap (returned loans) h.same ∙ ap (λ (os : Objects S). Stops stop inside (record state { objects = os }))
-              (ap (drop (length loans)) (all_put_widened loans state.objects others kids) ∙ dropped ns loans (all_put loans state.objects) still);
+                (ap (drop (length loans)) (all_put_widened loans state.objects others kids) ∙ dropped ns loans (all_put loans state.objects) still);
             kept = names_dropped ns loans (all_put loans state.objects) still;
           }
       loose_returned ns loans Unknown b i h = record { same = ap (returned loans) h.same; kept = tt }
@@ -270,16 +269,16 @@ module _ {S : Type 0} (others : Objects S) where
       loose_producing : (ev : Evaluator S) (ns vars : List ℕ) (producer : Core) (variables : Variables S) (loans : List (Loan S)) → EvFramed ev → AllInScope ns variables → LoansIn ns loans → GoLoose ns (producing r ev vars producer variables loans)
       loose_producing ev ns vars producer variables loans h a i state e =
           rw (lending_widened ns loans state e i)
-            (loose_returned ns loans _ _ i
-              (framed_with (children loans ++ ns) _ _ _
-                (h producer (loaned_variables r loans variables) (children loans ++ ns) (scope_loaned ns loans variables a) (lending r loans state) (names_lending ns loans state e))
-                (λ values j after q. framed_put_back (children loans ++ ns) vars loans (Gives values) (kids_in ns loans i) (λ last p. framed_give (children loans ++ ns) values last j p) after q)))
+          (loose_returned ns loans _ _ i
+          (framed_with (children loans ++ ns) _ _ _
+          (h producer (loaned_variables r loans variables) (children loans ++ ns) (scope_loaned ns loans variables a) (lending r loans state) (names_lending ns loans state e))
+          (λ values j after q. framed_put_back (children loans ++ ns) vars loans (Gives values) (kids_in ns loans i) (λ last p. framed_give (children loans ++ ns) values last j p) after q)))
 
       framed_with_loans : (ev : Evaluator S) (ns vars : List ℕ) (producer consumer : Core) (variables : Variables S) (loans : List (Loan S)) → EvFramed ev → AllInScope ns variables → LoansIn ns loans → GoFramed ns (with_loans r ev vars producer consumer variables loans)
       framed_with_loans ev ns vars producer consumer variables loans h a i state e =
           framed_if ns (are_twins r.kind loans) _ _ _ _ (framed_stop ns _ None state e)
-            (framed_then ns _ _ _ (loose_producing ev ns vars producer variables loans h a i state e)
-              (λ values after q. h consumer (bound vars values variables) ns (scope_bound ns vars values variables a) after q))
+          (framed_then ns _ _ _ (loose_producing ev ns vars producer variables loans h a i state e)
+          (λ values after q. h consumer (bound vars values variables) ns (scope_bound ns vars values variables a) after q))
 
       -- ---- local objects
 
@@ -300,8 +299,8 @@ module _ {S : Type 0} (others : Objects S) where
       loose_fresh ev ns x None producer variables h a state e = record { same = refl; kept = tt }
       loose_fresh ev ns x (Some l) producer variables h a state e =
           loose_innermost ns x _ _
-            (h producer ((x, Stobj x) ∷ variables) (x ∷ ns) (among_first x (x ∷ []) ns (rw (same_number x) refl), variables_more (x ∷ []) ns variables a)
-              (record state { objects = (x, l) ∷ state.objects }) (ap (λ (ms : List ℕ). x ∷ ms) e))
+          (h producer ((x, Stobj x) ∷ variables) (x ∷ ns) (among_first x (x ∷ []) ns (rw (same_number x) refl), variables_more (x ∷ []) ns variables a)
+          (record state { objects = (x, l) ∷ state.objects }) (ap (λ (ms : List ℕ). x ∷ ms) e))
 
       -- ---- forms
 
@@ -320,7 +319,7 @@ module _ {S : Type 0} (others : Objects S) where
           framed_all_borrowed ns xs forms variables [] _ a tt (λ loans i. framed_with_loans ev ns vars producer consumer variables loans h a i) state e
       framed_opened ev h (WithLocal object xs producer body) variables ns a state e =
           framed_then ns _ _ _ (loose_counting ns r.limit (with_fresh r ev object (r.fresh object) producer variables) (loose_fresh ev ns object (r.fresh object) producer variables h a) state e)
-            (λ values after q. h body (bound xs values variables) ns (scope_bound ns xs values variables a) after q)
+          (λ values after q. h body (bound xs values variables) ns (scope_bound ns xs values variables a) after q)
       framed_opened ev h (MustBeEqual logic exec) variables ns a state e = h logic variables ns a state e
       framed_opened ev h (Call f actuals) variables ns a state e =
           framed_in_order ev ns actuals variables [] _ h a tt (λ values i. framed_called ev ns f values h i) state e

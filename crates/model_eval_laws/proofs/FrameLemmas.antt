@@ -1,5 +1,5 @@
 -- The rules of checked evaluation leave other objects.
-use Rattle.std.proofs.Common.{◌≡◌, ℕ, List, [], Bool, true, false, Option, Some, None, refl, ap, ◌∙◌}
+use Rattle.std.proofs.Common.{◌≡◌, ℕ, List, [], Bool, true, false, None, refl, ap}
 use Rattle.std.specs.Prelude.{nat_lt, if◌then◌else◌}
 use Rattle.model_symbols.specs.Symbols.{Package}
 use Rattle.model_prims.specs.Applied.{Applied, applied}
@@ -7,13 +7,12 @@ use Rattle.model_prims.specs.Applied as prims
 use Rattle.model_prims.specs.declared.prim.Prim.{Prim}
 use Rattle.model_terms.specs.Cores.{Core}
 use Rattle.model_terms.specs.Worlds.{World, FunctionOfAbstract}
-use Rattle.model_eval.specs.Outcomes.{Shown, Plain, Stobj, Stop, Guard, Steps, Depth, Objects, State, Ended, Gives, Stops, Unknown, one_more_call}
+use Rattle.model_eval.specs.Outcomes.{Shown, Steps, Objects, State, Ended, Gives, Stops, Unknown, one_more_call}
 use Rattle.model_eval.specs.Scopes.{Variables, ordinary}
-use Rattle.model_eval.specs.Evaluated.{Rules, evaluated}
 use Rattle.model_eval.specs.Checked.{checked, checked_rules, checked_export, primitive_ended, inside}
-use Rattle.model_eval_laws.specs.Scope.{names, AllInScope, widened, HasNames, LeavesOthers}
+use Rattle.model_eval_laws.specs.Scope.{names, AllInScope, widened, LeavesOthers}
 use Rattle.model_eval_laws.proofs.Lists.{ValuesIn}
-use Rattle.model_eval_laws.proofs.Frame.{Framed, GoFramed, framed_counting, RulesFrame, framed_evaluated}
+use Rattle.model_eval_laws.proofs.Frame.{Framed, GoFramed, RulesFrame, framed_evaluated}
 
 module _ (others : Objects ℕ) where
   framed_answer : (ns : List ℕ) (f : ℕ) (values : List (Shown ℕ)) (state : State ℕ) (a : Applied) → names state.objects ≡ ns → Framed others ns (primitive_ended f values state a) (primitive_ended f values (widened others state) a)

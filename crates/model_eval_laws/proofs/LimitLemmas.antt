@@ -1,23 +1,20 @@
 -- The rules of checked and of abstract evaluation grow with their limits and worlds.
-use Rattle.std.proofs.Common.{◌≡◌, ℕ, zero, suc, ◌+◌, ◌<◌, ◌≤◌, List, [], ◌∷◌, Bool, true, false, Option, Some, None, refl, sym, ap, ◌∙◌, arith, inl, inr}
+use Rattle.std.proofs.Common.{◌≡◌, ℕ, zero, suc, ◌≤◌, List, [], ◌∷◌, Bool, true, false, Option, Some, None, refl, sym, ap, ◌∙◌, arith, inl, inr}
 use Rattle.std.specs.Prelude.{nat_lt, if◌then◌else◌, ◌⊎◌}
-use Rattle.std.proofs.lemmas.Bool.{ltb-true}
 use Rattle.std.proofs.lemmas.Bool.Decides.{nat_tests}
 use Rattle.model_objects.specs.Object.{Object}
 use Rattle.model_symbols.specs.Symbols.{Package, QualifiedName}
-use Rattle.model_lists.specs.Lists.{ObjectList}
 use Rattle.model_lists.specs.Layouts.{Layout}
 use Rattle.model_lists.specs.Layouts as layout
 use Rattle.model_terms.specs.Cores.{Core, Cores, Reached, Var, Const, If, Let, Mv, MvLet, StobjLet, WithLocal, MustBeEqual, Call, none, more, reached}
 use Rattle.model_terms.specs.Worlds.{World, Definition, Shape, Field, FunctionOfAbstract, definition, Primitive, Defined, Macro, Constant, Concrete, Generated, Abstract, OfAbstract, Named, Signed}
 use Rattle.model_terms.specs.Worlds as worlds
-use Rattle.model_eval.specs.Outcomes.{Shown, Stop, Steps, Depth, State, Ended, Gives, Stops, Unknown, counting, one_more_call}
+use Rattle.model_eval.specs.Outcomes.{Shown, Stop, Steps, State, Ended, Gives, Stops, Unknown, one_more_call}
 use Rattle.model_eval.specs.Scopes.{Variables}
 use Rattle.model_eval.specs.Worlds.{object_layout, layout_within, shape_layout, fields_layout, defined_layout, most_nested}
-use Rattle.model_eval.specs.Evaluated.{Rules, evaluated}
 use Rattle.model_eval.specs.Checked.{checked, checked_rules, checked_export, inside}
 use Rattle.model_eval.specs.Logic.{Book}
-use Rattle.model_eval.specs.AbstractRules.{abstractly, abstract_rules}
+use Rattle.model_eval.specs.AbstractRules.{abstract_rules}
 use Rattle.model_eval_laws.specs.Agreement.{Agrees, ReachedStands, Closed, AllClosed, AllReached, ShapeStands, FieldsStand, ClosedDefinition, StandsIn, IsClosedWorld, HasGrown}
 use Rattle.model_eval_laws.specs.Laws.{IsSteps, IsDepth, AgreesUntilLimit, KeepsOutcomes}
 use Rattle.model_eval_laws.proofs.Agree.{agrees_same, Grows, agrees_evaluated, agrees_deeper}

@@ -1,13 +1,12 @@
 -- Lists of objects, and more objects behind them.
-use Rattle.std.proofs.Common.{◌≡◌, ℕ, zero, suc, ◌+◌, ◌<◌, ◌≤◌, List, [], ◌∷◌, ◌++◌, map, length, drop, Bool, true, false, Option, Some, None, refl, sym, ap, ◌∙◌, subst, arith}
+use Rattle.std.proofs.Common.{◌≡◌, ℕ, zero, suc, ◌+◌, ◌≤◌, List, [], ◌∷◌, ◌++◌, map, length, drop, Bool, true, false, Option, Some, None, refl, sym, ap, ◌∙◌, subst, arith}
 use Rattle.std.specs.Prelude.{nat_eq, ◌||◌, if◌then◌else◌}
-use Rattle.std.specs.List.{list_any}
 use Rattle.std.proofs.lemmas.Bool.Decides.{nat_tests}
-use Rattle.std.proofs.lemmas.List.{append_assoc, drop-append-le, length-append}
+use Rattle.std.proofs.lemmas.List.{drop-append-le, length-append}
 use Rattle.std.proofs.Math.Seq.{drop-append_seam}
 use Rattle.model_prims.specs.Kinds.{SymbolKind}
 use Rattle.model_lists.specs.Lists.{ObjectList}
-use Rattle.model_eval.specs.Outcomes.{Shown, Plain, Stobj, Objects, State}
+use Rattle.model_eval.specs.Outcomes.{Shown, Plain, Stobj, Objects}
 use Rattle.model_eval.specs.Scopes.{Variables, variable_in, bound, list_of, with_list, inner_variables, inner_objects, handed_back, actual_for, outer_value, first_object, plain}
 use Rattle.model_eval.specs.Generated.{list_or_none}
 use Rattle.model_eval.specs.Children.{Loan, lent, put_into_parent, all_put, with_child}
@@ -116,7 +115,7 @@ module _ {S : Type 0} where
   back_widened (x ∷ xs) (Plain o ∷ vs) inner os more h = back_widened xs vs inner os more h.1
   back_widened (x ∷ xs) (Stobj y ∷ vs) inner os more h =
       rw (write_widened y (list_of inner x) os more h.0)
-        (back_widened xs vs inner (with_list y (list_of inner x) os) more (subst (λ ns. ValuesIn ns vs) (sym (names_write y (list_of inner x) os)) h.1))
+      (back_widened xs vs inner (with_list y (list_of inner x) os) more (subst (λ ns. ValuesIn ns vs) (sym (names_write y (list_of inner x) os)) h.1))
 
   pub names_back : (xs : List ℕ) (vs : List (Shown S)) (inner os : Objects S) → names (handed_back xs vs inner os) ≡ names os
   names_back [] vs inner os = refl

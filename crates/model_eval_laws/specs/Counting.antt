@@ -3,7 +3,7 @@ use Rattle.std.specs.Prelude.{◌≡◌, ℕ, ◌+◌, ◌≤◌, List, ◌++◌
 use Rattle.model_symbols.specs.Symbols.{QualifiedName, Package}
 use Rattle.model_terms.specs.Cores.{Core}
 use Rattle.model_terms.specs.Worlds.{World}
-use Rattle.model_eval.specs.Outcomes.{Shown, Stop, Objects, State, Ended, Gives, Stops, Unknown}
+use Rattle.model_eval.specs.Outcomes.{Objects, State, Ended, Gives, Stops, Unknown}
 use Rattle.model_eval.specs.Scopes.{Variables}
 use Rattle.model_eval.specs.Checked.{checked}
 use Rattle.model_eval_laws.specs.Laws.{IsSteps}

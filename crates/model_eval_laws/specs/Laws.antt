@@ -3,7 +3,7 @@ use Rattle.std.specs.Prelude.{◌≡◌, ℕ, ◌≤◌, List}
 use Rattle.model_symbols.specs.Symbols.{Package, QualifiedName}
 use Rattle.model_terms.specs.Cores.{Core}
 use Rattle.model_terms.specs.Worlds.{World}
-use Rattle.model_eval.specs.Outcomes.{Shown, Stop, Guard, Steps, Depth, Range, Large, Symbols, State}
+use Rattle.model_eval.specs.Outcomes.{Stop, Guard, Steps, Depth, Range, Large, Symbols, State}
 use Rattle.model_eval.specs.Scopes.{Variables}
 use Rattle.model_eval.specs.Checked.{checked}
 use Rattle.model_eval.specs.Logic.{Book}

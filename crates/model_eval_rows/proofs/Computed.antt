@@ -77,6 +77,6 @@ corresponding = record {
       corresponding = (Symbol truth_name, (10, 2, refl), refl);
       well_formed = (10, 6, refl);
     },
-    tt
+    tt,
   );
 }

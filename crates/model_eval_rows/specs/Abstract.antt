@@ -1,16 +1,15 @@
 -- An abstract object: (defstobj st$c (val$c :type integer :initially 0)) is its foundation; `val` and `update-val` are exports,
 -- and `twice`, which runs (let ((st$c (update-val$c (val$c st$c) st$c))) (update-val$c v st$c)) with the guard (natp v).
-use Rattle.std.specs.Prelude.{ℕ, List, [], ◌∷◌, ◌++◌, Option, Some, None}
-use Rattle.model_objects.specs.Object.{Object}
+use Rattle.std.specs.Prelude.{ℕ, List, [], ◌∷◌, ◌++◌, Some, None}
 use Rattle.model_lists.specs.Lists.{ObjectList}
-use Rattle.model_terms.specs.Cores.{Core, Var, If, Let, WithLocal, Mv, cores}
+use Rattle.model_terms.specs.Cores.{Core, Var, Let, WithLocal, Mv, cores}
 use Rattle.model_terms.specs.Worlds.{World, Definition, Ordinary, Abstract, OfAbstract}
 use Rattle.model_terms.specs.Worlds as worlds
 use Rattle.model_terms.specs.declared.role.Role.TheVariants as role
 use Rattle.model_terms.specs.declared.role.AbstractRole.{AbstractRole}
 use Rattle.model_terms.specs.declared.role.AbstractRole.TheVariants as abstract_role
 use Rattle.model_eval.specs.Outcomes.{Shown, Plain, Stobj, Stop, Guard, Steps, Depth, Ended, Gives, Stops}
-use Rattle.model_eval_rows.specs.Books.{Row, number, symbol, int, quoted, call, both_hold, always, numbers, primitives, function, generated, object, integer_field, gives, stops, state, natp_word, integerp_word}
+use Rattle.model_eval_rows.specs.Books.{Row, number, symbol, int, quoted, call, both_hold, always, numbers, primitives, function, generated, object, integer_field, state, natp_word, integerp_word}
 
 abbrev st : ℕ
 st = 196
@@ -70,7 +69,7 @@ export name formals ins outs what guard exec = OfAbstract (record {
 abbrev twice_body : Core
 twice_body =
     Let (foundation ∷ []) (cores (call update_val_c (call val_c (Var foundation ∷ []) ∷ Var foundation ∷ []) ∷ []))
-      (call update_val_c (Var v ∷ Var foundation ∷ []))
+    (call update_val_c (Var v ∷ Var foundation ∷ []))
 
 abbrev value_and_st : List worlds.Out
 value_and_st = Ordinary ∷ worlds.Stobj st ∷ []
@@ -96,10 +95,10 @@ book =
     ∷ export stp (x ∷ []) (worlds.Stobj st ∷ []) (Ordinary ∷ []) abstract_role.Recognizer always 0
     ∷ export val (st ∷ []) (worlds.Stobj st ∷ []) (Ordinary ∷ []) abstract_role.Export st_only val_c
     ∷ export update_val (v ∷ st ∷ []) value_and_st (worlds.Stobj st ∷ []) abstract_role.Export
-        (both_hold (call integerp_word (Var v ∷ [])) st_only) update_val_c
+    (both_hold (call integerp_word (Var v ∷ [])) st_only) update_val_c
     ∷ export twice (v ∷ st ∷ []) value_and_st (worlds.Stobj st ∷ []) abstract_role.Export st_only twice_c
     ∷ function outermost (v ∷ st ∷ []) value_and_st (worlds.Stobj st ∷ []) always
-        (Let (st ∷ []) (cores (call twice (Var v ∷ Var st ∷ []) ∷ [])) (call update_val (Var v ∷ Var st ∷ [])))
+    (Let (st ∷ []) (cores (call twice (Var v ∷ Var st ∷ []) ∷ [])) (call update_val (Var v ∷ Var st ∷ [])))
     ∷ [])
 
 abbrev holding : ℕ → List (ℕ × ObjectList ℕ)
@@ -139,6 +138,6 @@ abstract_rows =
     ∷ run 1000 2 5 (call twice (int 6 ∷ Var st ∷ [])) (stops_inside Depth twice 5 4 2)
     -- a local abstract object is new
     ∷ run 1000 100 5
-        (WithLocal st (x ∷ st ∷ []) (Mv (cores (call val (Var st ∷ []) ∷ Var st ∷ []))) (Var x))
-        (gives_of (Plain (number 0) ∷ []) 5 4 3)
+    (WithLocal st (x ∷ st ∷ []) (Mv (cores (call val (Var st ∷ []) ∷ Var st ∷ []))) (Var x))
+    (gives_of (Plain (number 0) ∷ []) 5 4 3)
     ∷ []

@@ -1,22 +1,22 @@
 -- Abstract evaluation of an object that is its foundation: (defstobj st$c (val$c :type integer :initially 0)), st$ap of x is
 -- (and (true-listp x) (equal (len x) 1) (integerp (car x))), create-st$a is (list 0), val$a is (car x), update-val$a is
 -- (update-nth 0 v x) and st$corr is (equal st$c x).
-use Rattle.std.specs.Prelude.{◌≡◌, ℕ, List, [], ◌∷◌, ◌++◌, map, true, Option, Some, None, pos}
-use Rattle.model_objects.specs.Object.{Object, Integer, Symbol, Pair, list_onto}
+use Rattle.std.specs.Prelude.{◌≡◌, ℕ, List, [], ◌∷◌, ◌++◌, map, None, pos}
+use Rattle.model_objects.specs.Object.{Integer, Symbol, list_onto}
 use Rattle.model_symbols.specs.Symbols.{QualifiedName}
 use Rattle.model_symbols.specs.Opening.{truth_name, nil_name}
 use Rattle.model_prims.specs.declared.prim.Prim.TheVariants.{Recognizer, Relation, Listing}
 use Rattle.model_prims.specs.declared.prim.Recognizer.TheVariants as recognizer
 use Rattle.model_prims.specs.declared.prim.Relation.TheVariants as relation
 use Rattle.model_prims.specs.declared.prim.Listing.TheVariants as listing
-use Rattle.model_lists.specs.Lists.{ObjectList, Value, End, Item}
-use Rattle.model_terms.specs.Cores.{Core, Var, If, Mv, WithLocal, cores}
+use Rattle.model_lists.specs.Lists.{ObjectList, Value}
+use Rattle.model_terms.specs.Cores.{Core, Var, Mv, WithLocal, cores}
 use Rattle.model_terms.specs.Worlds.{World, Definition, Ordinary, Abstract, OfAbstract}
 use Rattle.model_terms.specs.Worlds as worlds
 use Rattle.model_terms.specs.declared.role.Role.TheVariants as role
 use Rattle.model_terms.specs.declared.role.AbstractRole.{AbstractRole}
 use Rattle.model_terms.specs.declared.role.AbstractRole.TheVariants as abstract_role
-use Rattle.model_eval.specs.Outcomes.{Shown, Plain, Stobj, Stop, Guard, Steps, State, Ended, Gives, Stops, Unknown}
+use Rattle.model_eval.specs.Outcomes.{Plain, Stobj, Guard, State, Ended, Gives, Stops, Unknown}
 use Rattle.model_eval.specs.Checked.{live}
 use Rattle.model_eval.specs.Logic.{Book, Thing}
 use Rattle.model_eval.specs.AbstractRules.{abstractly, Correspond}
@@ -98,7 +98,7 @@ function_on_x name guard body = function name (x ∷ []) (Ordinary ∷ []) (Ordi
 abbrev st_ap_body : Core
 st_ap_body =
     both_hold (call true_listp_word (Var x ∷ []))
-      (both_hold (call equal_word (call len_word (Var x ∷ []) ∷ int 1 ∷ [])) (call integerp_word (call car_word (Var x ∷ []) ∷ [])))
+    (both_hold (call equal_word (call len_word (Var x ∷ []) ∷ int 1 ∷ [])) (call integerp_word (call car_word (Var x ∷ []) ∷ [])))
 
 abbrev value_and_st : List worlds.Out
 value_and_st = Ordinary ∷ worlds.Stobj st ∷ []
@@ -117,7 +117,7 @@ world =
     ∷ function create_a [] [] (Ordinary ∷ []) always (call cons_word (int 0 ∷ quoted 1 ∷ []))
     ∷ function_on_x val_a (call st_ap (Var x ∷ [])) (call car_word (Var x ∷ []))
     ∷ function update_val_a (v ∷ x ∷ []) (Ordinary ∷ Ordinary ∷ []) (Ordinary ∷ [])
-        (both_hold (call integerp_word (Var v ∷ [])) (call st_ap (Var x ∷ []))) (call update_nth_word (int 0 ∷ Var v ∷ Var x ∷ []))
+    (both_hold (call integerp_word (Var v ∷ [])) (call st_ap (Var x ∷ []))) (call update_nth_word (int 0 ∷ Var v ∷ Var x ∷ []))
     ∷ function corr (foundation ∷ x ∷ []) (Ordinary ∷ Ordinary ∷ []) (Ordinary ∷ []) always (call equal_word (Var foundation ∷ Var x ∷ []))
     ∷ Abstract (record {
       name = st;
@@ -131,7 +131,7 @@ world =
     ∷ exported create_st [] [] (worlds.Stobj st ∷ []) abstract_role.Creator always create_a 0
     ∷ exported val (st ∷ []) (worlds.Stobj st ∷ []) (Ordinary ∷ []) abstract_role.Export (call stp (Var st ∷ [])) val_a val_c
     ∷ exported update_val (v ∷ st ∷ []) value_and_st (worlds.Stobj st ∷ []) abstract_role.Export
-        (both_hold (call integerp_word (Var v ∷ [])) (call stp (Var st ∷ []))) update_val_a update_val_c
+    (both_hold (call integerp_word (Var v ∷ [])) (call stp (Var st ∷ []))) update_val_a update_val_c
     ∷ [])
 
 abbrev pub book : Book
@@ -175,8 +175,8 @@ abstract_rows =
     ∷ run 1 0 (call update_val (int 5 ∷ Var st ∷ [])) Unknown
     -- a new object is the value of the logic creator
     ∷ run 100 5
-        (WithLocal st (x ∷ st ∷ []) (Mv (cores (call val (Var st ∷ []) ∷ Var st ∷ []))) (Var x))
-        (Gives (Plain (number 0) ∷ []) (state 5 3))
+    (WithLocal st (x ∷ st ∷ []) (Mv (cores (call val (Var st ∷ []) ∷ Var st ∷ []))) (Var x))
+    (Gives (Plain (number 0) ∷ []) (state 5 3))
     ∷ []
 
 -- the foundation's list (7) corresponds to the abstract list (7)

@@ -1,7 +1,5 @@
 -- Worlds of small books, and how rows are written.
-use Rattle.std.specs.Prelude.{◌≡◌, ℕ, List, [], ◌∷◌, ◌++◌, map, Bool, true, false, Option, Some, None, ℤ, pos}
-use Rattle.acl_base.specs.declared.layout.Test.{Test}
-use Rattle.acl_base.specs.declared.layout.Test.TheVariants.{Eql}
+use Rattle.std.specs.Prelude.{◌≡◌, ℕ, List, [], ◌∷◌, map, true, Option, Some, None, pos}
 use Rattle.model_objects.specs.Object.{Object, Integer, Symbol}
 use Rattle.model_symbols.specs.Opening.{nil, truth}
 use Rattle.model_prims.specs.Rows.{lisp}
@@ -11,14 +9,12 @@ use Rattle.model_prims.specs.declared.prim.Recognizer.TheVariants as recognizer
 use Rattle.model_prims.specs.declared.prim.Relation.TheVariants as relation
 use Rattle.model_prims.specs.declared.prim.Arithmetic.TheVariants as arithmetic
 use Rattle.model_prims.specs.declared.prim.Listing.TheVariants as listing
-use Rattle.model_lists.specs.Lists.{ObjectList, Value, Pairs, End, Item}
+use Rattle.model_lists.specs.Lists.{ObjectList, Value, End, Item}
 use Rattle.model_lists.specs.Types.{integer_word}
-use Rattle.model_terms.specs.Cores.{Core, Var, Const, If, Call, cores}
-use Rattle.model_terms.specs.Worlds.{World, Definition, Out, Ordinary, Signature, Function, GeneratedFunction, Field, Shape, Scalar, Array, Primitive, Defined, Concrete, Generated}
-use Rattle.model_terms.specs.Worlds as worlds
+use Rattle.model_terms.specs.Cores.{Core, Const, If, Call, cores}
+use Rattle.model_terms.specs.Worlds.{World, Definition, Out, Ordinary, Shape, Scalar, Primitive, Defined, Concrete, Generated}
 use Rattle.model_terms.specs.declared.role.Role.{Role}
-use Rattle.model_terms.specs.declared.role.Role.TheVariants as role
-use Rattle.model_eval.specs.Outcomes.{Shown, Plain, Stobj, Stop, State, Ended, Gives, Stops}
+use Rattle.model_eval.specs.Outcomes.{Shown, Stobj, Stop, State, Ended, Gives, Stops}
 use Rattle.model_eval.specs.Checked.{checked}
 
 -- ---- forms and values

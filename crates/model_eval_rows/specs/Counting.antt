@@ -1,7 +1,5 @@
 -- (defstobj st (pc :type integer :initially 0)), and two functions: `up` counts the field up, `spin` calls itself.
 use Rattle.std.specs.Prelude.{ℕ, List, [], ◌∷◌, ◌++◌, None}
-use Rattle.model_objects.specs.Object.{Object}
-use Rattle.model_lists.specs.Lists.{ObjectList}
 use Rattle.model_terms.specs.Cores.{Core, Var, If, Let, Mv, WithLocal, cores}
 use Rattle.model_terms.specs.Worlds.{World, Ordinary}
 use Rattle.model_terms.specs.Worlds as worlds
@@ -56,16 +54,16 @@ counter =
 abbrev up_body : Core
 up_body =
     If (call not_word (call zp_word (Var n ∷ []) ∷ []))
-      (Let (st ∷ []) (cores (call update_pc (call plus_word (int 1 ∷ call pc (Var st ∷ []) ∷ []) ∷ Var st ∷ []) ∷ []))
-        (call up (call plus_word (Var n ∷ call minus_word (int 1 ∷ []) ∷ []) ∷ Var st ∷ [])))
-      (Var st)
+    (Let (st ∷ []) (cores (call update_pc (call plus_word (int 1 ∷ call pc (Var st ∷ []) ∷ []) ∷ Var st ∷ []) ∷ []))
+    (call up (call plus_word (Var n ∷ call minus_word (int 1 ∷ []) ∷ []) ∷ Var st ∷ [])))
+    (Var st)
 
 -- (with-local-stobj st (mv-let (x st) (let ((st (update-pc n st))) (mv (pc st) st)) x))
 abbrev local_body : Core
 local_body =
     WithLocal st (x ∷ st ∷ [])
-      (Let (st ∷ []) (cores (call update_pc (Var n ∷ Var st ∷ []) ∷ [])) (Mv (cores (call pc (Var st ∷ []) ∷ Var st ∷ []))))
-      (Var x)
+    (Let (st ∷ []) (cores (call update_pc (Var n ∷ Var st ∷ []) ∷ [])) (Mv (cores (call pc (Var st ∷ []) ∷ Var st ∷ []))))
+    (Var x)
 
 abbrev pub book : World
 book =

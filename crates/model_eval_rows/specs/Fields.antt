@@ -1,17 +1,17 @@
 -- Arrays and hash fields: (defstobj st (a :type (array integer (4)) :initially 0)
 -- (b :type (array (unsigned-byte 8) (0)) :initially 7 :resizable t) (h :type (hash-table eql))).
-use Rattle.std.specs.Prelude.{ℕ, ◌-◌, ◌^◌, List, [], ◌∷◌, ◌++◌, true, false, None, pos, negsuc, map}
+use Rattle.std.specs.Prelude.{ℕ, List, [], ◌∷◌, ◌++◌, true, false, None, negsuc, map}
 use Rattle.acl_base.specs.declared.layout.Test.TheVariants.{Eql}
-use Rattle.model_objects.specs.Object.{Object, Integer, Symbol, Text, Pair, list_onto}
+use Rattle.model_objects.specs.Object.{Object, Integer, Symbol, Text, list_onto}
 use Rattle.model_symbols.specs.Opening.{nil, truth}
-use Rattle.model_lists.specs.Lists.{ObjectList, Value, Pairs, End, Item}
+use Rattle.model_lists.specs.Lists.{ObjectList, Pairs}
 use Rattle.model_lists.specs.Types.{integer_word, unsigned_byte_word}
-use Rattle.model_terms.specs.Cores.{Core, Var, Const, If, Let, Mv, MvLet, cores}
+use Rattle.model_terms.specs.Cores.{Core, Var, Const, Let, MvLet, cores}
 use Rattle.model_terms.specs.Worlds.{World, Ordinary}
 use Rattle.model_terms.specs.Worlds as worlds
 use Rattle.model_terms.specs.declared.role.Role.{Role}
 use Rattle.model_terms.specs.declared.role.Role.TheVariants as role
-use Rattle.model_eval.specs.Outcomes.{Plain, Stobj, Guard, Steps, Depth, Ended}
+use Rattle.model_eval.specs.Outcomes.{Plain, Stobj, Guard, Ended}
 use Rattle.model_eval_rows.specs.Books.{Row, number, symbol, int, quoted, call, always, items, numbers, primitives, function, generated, object, gives, stops}
 
 abbrev pub st : ℕ
@@ -111,7 +111,7 @@ abbrev pub book : World
 book =
     primitives
     ++ (object st
-        (worlds.Array (Symbol integer_word) (number 0) 4 false ∷ worlds.Array byte_type (number 7) 0 true ∷ worlds.Hash Eql ∷ []) None st
+    (worlds.Array (Symbol integer_word) (number 0) 4 false ∷ worlds.Array byte_type (number 7) 0 true ∷ worlds.Hash Eql ∷ []) None st
     ∷ reader ai 0 role.Access
     ∷ writer_of_two update_ai 0 role.Update
     ∷ reader bi 1 role.Access
@@ -178,9 +178,9 @@ array_rows =
     -- up, down and up again: what was cut off is gone
     ∷ changes (listed zeros [] []) (call resize_b (int 3 ∷ Var st ∷ [])) (listed zeros (7 ∷ 7 ∷ 7 ∷ []) []) 1
     ∷ changes (listed zeros [] [])
-        (then_st (call resize_b (int 3 ∷ Var st ∷ [])) (then_st (call update_bi (int 2 ∷ int 9 ∷ Var st ∷ []))
-          (then_st (call resize_b (int 1 ∷ Var st ∷ [])) (call resize_b (int 3 ∷ Var st ∷ [])))))
-        (listed zeros (7 ∷ 7 ∷ 7 ∷ []) []) 4
+    (then_st (call resize_b (int 3 ∷ Var st ∷ [])) (then_st (call update_bi (int 2 ∷ int 9 ∷ Var st ∷ []))
+    (then_st (call resize_b (int 1 ∷ Var st ∷ [])) (call resize_b (int 3 ∷ Var st ∷ [])))))
+    (listed zeros (7 ∷ 7 ∷ 7 ∷ []) []) 4
     ∷ value (listed zeros (7 ∷ 7 ∷ 9 ∷ []) []) (call b_length (Var st ∷ [])) (number 3)
     ∷ changes (listed zeros (7 ∷ 7 ∷ 9 ∷ []) []) (call resize_b (int 0 ∷ Var st ∷ [])) (listed zeros [] []) 1
     -- too long, no natural number, and an array that is not resizable

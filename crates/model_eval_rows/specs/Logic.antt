@@ -1,9 +1,8 @@
 -- The logic value of forms of the same books: no guard, and objects are lists.
-use Rattle.std.specs.Prelude.{◌≡◌, ℕ, List, [], ◌∷◌, map, codes, Option, Some, None, pos, negsuc}
-use Rattle.model_objects.specs.Object.{Object, Integer, Symbol, Text, Pair, list_onto}
-use Rattle.model_symbols.specs.Symbols.{QualifiedName}
+use Rattle.std.specs.Prelude.{◌≡◌, ℕ, List, [], ◌∷◌, map, Option, None, pos, negsuc}
+use Rattle.model_objects.specs.Object.{Integer, Symbol, Pair, list_onto}
 use Rattle.model_symbols.specs.Opening.{truth_name, nil_name}
-use Rattle.model_terms.specs.Cores.{Core, Var, Const, Let, Mv, MvLet, MustBeEqual, cores}
+use Rattle.model_terms.specs.Cores.{Core, Var, Const, Mv, MvLet, MustBeEqual, cores}
 use Rattle.model_terms.specs.Worlds.{World}
 use Rattle.model_eval.specs.Logic.{Book, Found, Thing, Values, found, logic}
 use Rattle.model_eval_rows.specs.Books.{int, call, always}

@@ -1,9 +1,8 @@
 -- Several objects and children: (defstobj kid (val :type integer :initially 0)),
 -- (defstobj kid2 (val2 :type integer :initially 0) :congruent-to kid), (defstobj par (k :type (array kid (3))) (one :type kid)).
-use Rattle.std.specs.Prelude.{ℕ, List, [], ◌∷◌, ◌++◌, Option, Some, None}
-use Rattle.model_objects.specs.Object.{Object}
-use Rattle.model_lists.specs.Lists.{ObjectList, Value, End, Item}
-use Rattle.model_terms.specs.Cores.{Core, Var, If, Let, Mv, StobjLet, cores}
+use Rattle.std.specs.Prelude.{ℕ, List, [], ◌∷◌, ◌++◌, Some, None}
+use Rattle.model_lists.specs.Lists.{ObjectList, End}
+use Rattle.model_terms.specs.Cores.{Core, Var, Let, Mv, StobjLet, cores}
 use Rattle.model_terms.specs.Worlds.{World, Ordinary}
 use Rattle.model_terms.specs.Worlds as worlds
 use Rattle.model_terms.specs.declared.role.Role.TheVariants as role
@@ -86,7 +85,7 @@ two_producer =
 abbrev two_body : Core
 two_body =
     StobjLet (kid ∷ kid2 ∷ []) (cores (call ki (Var i ∷ Var par ∷ []) ∷ call ki (Var j ∷ Var par ∷ []) ∷ [])) (kid ∷ kid2 ∷ [])
-      two_producer (Var par)
+    two_producer (Var par)
 
 -- (stobj-let ((kid (ki i par))) (v) (val kid) v)
 abbrev peek_body : Core
@@ -97,14 +96,14 @@ peek_body = StobjLet (kid ∷ []) (cores (call ki (Var i ∷ Var par ∷ []) ∷
 abbrev spoil_body : Core
 spoil_body =
     StobjLet (kid ∷ kid2 ∷ []) (cores (call ki (Var i ∷ Var par ∷ []) ∷ call one (Var par ∷ []) ∷ [])) (kid ∷ kid2 ∷ [])
-      (Let (kid ∷ []) (cores (set_val kid (int 1) ∷ [])) (Let (kid2 ∷ []) (cores (set_val kid2 (quoted a) ∷ [])) (Mv (cores (Var kid ∷ Var kid2 ∷ [])))))
-      (Var par)
+    (Let (kid ∷ []) (cores (set_val kid (int 1) ∷ [])) (Let (kid2 ∷ []) (cores (set_val kid2 (quoted a) ∷ [])) (Mv (cores (Var kid ∷ Var kid2 ∷ [])))))
+    (Var par)
 
 -- (let ((kid (update-val 7 kid))) (let ((kid2 (update-val2 8 kid2))) (mv kid kid2)))
 abbrev both_body : Core
 both_body =
     Let (kid ∷ []) (cores (set_val kid (int 7) ∷ []))
-      (Let (kid2 ∷ []) (cores (call update_val2 (int 8 ∷ Var kid2 ∷ []) ∷ [])) (Mv (cores (Var kid ∷ Var kid2 ∷ []))))
+    (Let (kid2 ∷ []) (cores (call update_val2 (int 8 ∷ Var kid2 ∷ []) ∷ [])) (Mv (cores (Var kid ∷ Var kid2 ∷ []))))
 
 abbrev ordinary_and_par : List worlds.Out
 ordinary_and_par = Ordinary ∷ worlds.Stobj par ∷ []

@@ -1,5 +1,5 @@
 -- What the functions that a concrete object comes with do to its list, and when they are refused.
-use Rattle.std.specs.Prelude.{ℕ, List, [], ◌∷◌, Bool, true, false, ◌&&◌, ◌||◌, Option, Some, None, nat_lt, nat_le, pos, negsuc, unwrap_or, slice_get, if◌then◌else◌}
+use Rattle.std.specs.Prelude.{ℕ, List, [], ◌∷◌, Bool, true, false, ◌&&◌, ◌||◌, nat_lt, nat_le, pos, negsuc, unwrap_or, if◌then◌else◌}
 use Rattle.acl_base.specs.declared.layout.Test.{Test}
 use Rattle.acl_base.specs.declared.layout.Test.TheVariants.{Eq, Eql, Equal}
 use Rattle.model_objects.specs.Object.{Object, Integer, Symbol, Text, Pair}
@@ -7,7 +7,7 @@ use Rattle.model_prims.specs.Kinds.{SymbolKind, nil_of, truth_of, is_integer, is
 use Rattle.model_prims.specs.Numbers.{natural_of}
 use Rattle.model_prims.specs.Applied.{argument}
 use Rattle.model_lists.specs.Lists.{ObjectList, Value, Pairs, size, item, with_item, resized, pairs_of, value_at, has_key, without_key, key_count, as_object}
-use Rattle.model_lists.specs.Types.{ValueType, meets}
+use Rattle.model_lists.specs.Types.{meets}
 use Rattle.model_lists.specs.Layouts.{Layout, Scalar, Array, Hash, Children, NoField, Field}
 
 -- what comes of a function on a list: its guard fails, it gives values, or the object has another list

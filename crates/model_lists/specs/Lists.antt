@@ -1,5 +1,5 @@
 -- The list of an object, with the fields that it has: what a single-threaded object stands for.
-use Rattle.std.specs.Prelude.{ℕ, zero, suc, ◌+◌, List, [], ◌∷◌, map, filter, Bool, not, Option, Some, None, if◌then◌else◌}
+use Rattle.std.specs.Prelude.{ℕ, zero, suc, ◌+◌, List, [], ◌∷◌, map, Bool, Option, Some, None, if◌then◌else◌}
 use Rattle.std.specs.Option.{is_some}
 use Rattle.model_objects.specs.Object.{Object, Pair, list_onto}
 use Rattle.model_prims.specs.Kinds.{SymbolKind, nil_of, same_object}

@@ -1,17 +1,16 @@
 -- Lists and the ordinary objects that they are.
-use Rattle.std.proofs.Common.{◌≡◌, ℕ, zero, suc, ◌+◌, ◌-◌, ◌<◌, List, [], ◌∷◌, map, Bool, true, false, Option, Some, None, refl, sym, ap, ◌∙◌, arith, sub-one}
+use Rattle.std.proofs.Common.{◌≡◌, ℕ, zero, suc, ◌+◌, ◌<◌, List, [], ◌∷◌, Bool, true, false, Some, refl, ap, arith, sub-one}
 use Rattle.std.specs.Prelude.{nat_eq, ◌&&◌, ◌||◌, unwrap_or, if◌then◌else◌}
 use Rattle.std.specs.Option.{is_some}
 use Rattle.std.proofs.lemmas.Bool.Decides.{nat_tests}
-use Rattle.model_objects.specs.Object.{Object, Integer, Symbol, Text, Pair}
-use Rattle.model_symbols.specs.Symbols.{QualifiedName}
+use Rattle.model_objects.specs.Object.{Object, Pair}
 use Rattle.model_symbols.specs.Opening.{opening, acl2_package, common_lisp_symbols, acl2_symbols, common_lisp_text, acl2_text}
 use Rattle.model_prims.specs.Kinds.{SymbolKind, by_name, by_number, nil_of, is_pair, same_object}
-use Rattle.model_prims.specs.Lists.{len, car, cdr, element, updated}
-use Rattle.model_lists.specs.Lists.{ObjectList, Value, Pairs, End, Item, size, item, with_item, first_of, rest_of, resized, value_at, has_key, without_key, key_count, as_object}
+use Rattle.model_prims.specs.Lists.{len, cdr, element, updated}
+use Rattle.model_lists.specs.Lists.{ObjectList, Value, Pairs, End, Item, size, item, with_item, resized, value_at, has_key, without_key, key_count, as_object}
 use Rattle.model_lists.specs.Types.{meets}
 use Rattle.model_lists.specs.Layouts.{Layout, Scalar, Array, Hash, Children, NoField, Field, initial, repeated, every, recognizes}
-use Rattle.model_lists.specs.Logical.{with_length, has_this_key, pair_with, without_pairs, keys_in}
+use Rattle.model_lists.specs.Logical.{with_length, pair_with, without_pairs, keys_in}
 use Rattle.model_lists_laws.specs.Laws.{AreItems, IsLogical, HasInitials, IsRecognized, AreTypeWords}
 
 not_zero : (n : ℕ) → nat_eq (suc n) 0 ≡ false

@@ -1,12 +1,12 @@
 -- What is said of lists, types and layouts, as laws.
-use Rattle.std.specs.Prelude.{◌≡◌, ℕ, ◌<◌, List, [], ◌∷◌, map, codes, Bool, true, unwrap_or}
+use Rattle.std.specs.Prelude.{◌≡◌, ℕ, ◌<◌, List, [], ◌∷◌, map, codes, true, unwrap_or}
 use Rattle.model_objects.specs.Object.{Object, Pair}
 use Rattle.model_symbols.specs.Symbols.{QualifiedName, symbol_at}
 use Rattle.model_symbols.specs.Opening.{opening, common_lisp, truth}
 use Rattle.model_prims.specs.Kinds.{SymbolKind, by_name, by_number, nil_of, is_pair}
 use Rattle.model_prims.specs.Lists.{len, cdr, element, updated}
 use Rattle.model_lists.specs.Lists.{ObjectList, Value, Pairs, End, Item, size, item, with_item, resized, value_at, has_key, without_key, key_count, as_object}
-use Rattle.model_lists.specs.Types.{ValueType, meets, atom_word, null_word, cons_word, not_word, star_word, member_word, and_word, or_word, integer_word, signed_byte_word, unsigned_byte_word, bit_word, symbol_word, string_word, boolean_word}
+use Rattle.model_lists.specs.Types.{meets, atom_word, null_word, cons_word, not_word, star_word, member_word, and_word, or_word, integer_word, signed_byte_word, unsigned_byte_word, bit_word, symbol_word, string_word, boolean_word}
 use Rattle.model_lists.specs.Layouts.{Layout, Scalar, Array, Hash, Children, NoField, Field, initial, recognizes}
 use Rattle.model_lists.specs.Normal.{name_cmp, number_cmp, normal, normal_pairs}
 use Rattle.model_lists.specs.Logical.{with_length, pair_with, without_pairs, keys_in}
@@ -57,6 +57,6 @@ lisp_symbol name = record { home = common_lisp; name = name }
 -- the words that types are written with have the numbers that they are taken to have
 pub record AreTypeWords : Type 0 where
   pub words : map (symbol_at opening.symbols)
-          (truth ∷ cons_word ∷ atom_word ∷ null_word ∷ not_word ∷ star_word ∷ member_word ∷ and_word ∷ or_word ∷ integer_word ∷ signed_byte_word ∷ unsigned_byte_word ∷ bit_word ∷ symbol_word ∷ string_word ∷ boolean_word ∷ [])
+      (truth ∷ cons_word ∷ atom_word ∷ null_word ∷ not_word ∷ star_word ∷ member_word ∷ and_word ∷ or_word ∷ integer_word ∷ signed_byte_word ∷ unsigned_byte_word ∷ bit_word ∷ symbol_word ∷ string_word ∷ boolean_word ∷ [])
       ≡ map lisp_symbol
-          (codes "T" ∷ codes "CONS" ∷ codes "ATOM" ∷ codes "NULL" ∷ codes "NOT" ∷ codes "*" ∷ codes "MEMBER" ∷ codes "AND" ∷ codes "OR" ∷ codes "INTEGER" ∷ codes "SIGNED-BYTE" ∷ codes "UNSIGNED-BYTE" ∷ codes "BIT" ∷ codes "SYMBOL" ∷ codes "STRING" ∷ codes "BOOLEAN" ∷ [])
+      (codes "T" ∷ codes "CONS" ∷ codes "ATOM" ∷ codes "NULL" ∷ codes "NOT" ∷ codes "*" ∷ codes "MEMBER" ∷ codes "AND" ∷ codes "OR" ∷ codes "INTEGER" ∷ codes "SIGNED-BYTE" ∷ codes "UNSIGNED-BYTE" ∷ codes "BIT" ∷ codes "SYMBOL" ∷ codes "STRING" ∷ codes "BOOLEAN" ∷ [])
