@@ -93,7 +93,7 @@ module _ (limit : ℕ) where
   counts_inside : (x : ℕ) (a : State ℕ) (r : Ended ℕ) → a.calls < limit → Counts limit (one_more_call a) r → Counts limit a (inside x a r)
   counts_inside x a (Gives values s) l h = grown_inside a s l h
   counts_inside x a (Stops stop within s) l h = (grown_inside a s l h.0, h.1)
-  counts_inside x a Unknown l h = tt
+  counts_inside x a Unknown l h = h
 
   counts_export : (f : FunctionOfAbstract) (values : List (Shown ℕ)) (go : State ℕ → Ended ℕ) → GoCounts limit go → GoCounts limit (checked_export limit f values go)
   counts_export f values go h state = by_test (nat_lt state.calls limit) refl
@@ -106,6 +106,7 @@ checked_count : (w : World) (packages : List Package) (k : ℕ) → RulesCount (
 checked_count w packages k = record {
   primitives = λ f p values state. counts_answer k f values state _ (adds_applied (record { packages = packages; symbols = state.symbols }) p (ordinary values));
   exports = counts_export k;
+  known = λ x. (_, refl);
 }
 
 pub counts_calls : CountsCalls

@@ -62,17 +62,17 @@ module _ {S : Type 0} (limit : ℕ) where
   pub counts_later : (a b : State S) (r : Ended S) → Grown limit a b → Counts limit b r → Counts limit a r
   counts_later a b (Gives values s) g h = grown_then a b s g h
   counts_later a b (Stops stop inside s) g h = (grown_then a b s g h.0, h.1)
-  counts_later a b Unknown g h = tt
+  counts_later a b Unknown g h = h
 
   counts_then : (a : State S) (r : Ended S) (go : List (Shown S) → State S → Ended S) → Counts limit a r → ((values : List (Shown S)) → GoCounts (go values)) → Counts limit a (then_with r go)
   counts_then a (Gives values s) go h k = counts_later a s (go values s) h (k values s)
   counts_then a (Stops stop inside s) go h k = h
-  counts_then a Unknown go h k = tt
+  counts_then a Unknown go h k = h
 
   counts_one : (a : State S) (r : Ended S) → a.calls < limit → Counts limit (one_more_call a) r → Counts limit a r
   counts_one a (Gives values s) l h = grown_call a s l h
   counts_one a (Stops stop inside s) l h = (grown_call a s l h.0, h.1)
-  counts_one a Unknown l h = tt
+  counts_one a Unknown l h = h
 
   pub counts_counting : (a : State S) (go : State S → Ended S) → GoCounts go → Counts limit a (counting limit a go)
   counts_counting a go h = by_test (nat_lt a.calls limit) refl
@@ -84,22 +84,22 @@ module _ {S : Type 0} (limit : ℕ) where
   counts_state : (a : State S) (change : State S → Objects S) (os : Objects S) (r : Ended S) → Counts limit (record a { objects = os }) r → Counts limit a (with_state (λ s. record s { objects = change s }) r)
   counts_state a change os (Gives values s) h = grown_objects a s os (change s) h
   counts_state a change os (Stops stop inside s) h = (grown_objects a s os (change s) h.0, h.1)
-  counts_state a change os Unknown h = tt
+  counts_state a change os Unknown h = h
 
   counts_objects : (a : State S) (os : Objects S) (r : Ended S) → Counts limit (record a { objects = os }) r → Counts limit a r
   counts_objects a os (Gives values s) h = grown_objects a s os s.objects h
   counts_objects a os (Stops stop inside s) h = (grown_objects a s os s.objects h.0, h.1)
-  counts_objects a os Unknown h = tt
+  counts_objects a os Unknown h = h
 
   counts_back : (formals : List ℕ) (actuals : List (Shown S)) (a : State S) (r : Ended S) → Counts limit (inner_state formals actuals a) r → Counts limit a (back formals actuals a r)
   counts_back formals actuals a (Gives values s) h = grown_objects a s _ _ h
   counts_back formals actuals a (Stops stop inside s) h = (grown_objects a s _ _ h.0, h.1)
-  counts_back formals actuals a Unknown h = tt
+  counts_back formals actuals a Unknown h = h
 
   counts_returned : (loans : List (Loan S)) (a : State S) (os : Objects S) (r : Ended S) → Counts limit (record a { objects = os }) r → Counts limit a (returned loans r)
   counts_returned loans a os (Gives values s) h = grown_objects a s os _ h
   counts_returned loans a os (Stops stop inside s) h = (grown_objects a s os _ h.0, h.1)
-  counts_returned loans a os Unknown h = tt
+  counts_returned loans a os Unknown h = h
 
   counts_if : (a : State S) (b : Bool) (r s : Ended S) → Counts limit a r → Counts limit a s → Counts limit a (if b then r else s)
   counts_if a true r s h k = h
@@ -137,6 +137,7 @@ module _ {S : Type 0} (r : Rules S) where
   pub record RulesCount : Type 0 where
     pub primitives : (f : ℕ) (p : Prim) (values : List (Shown S)) → GoCounts r.limit (r.primitive f p values)
     pub exports : (f : FunctionOfAbstract) (values : List (Shown S)) (go : State S → Ended S) → GoCounts r.limit go → GoCounts r.limit (r.export f values go)
+    pub known : (x : ℕ) → (l : ObjectList S) × (r.fresh x ≡ Some l)
 
   module _ (g : RulesCount) where
     abbrev EvCounts : Evaluator S → Type 0
@@ -285,10 +286,12 @@ module _ {S : Type 0} (r : Rules S) where
 
     -- ---- local objects
 
-    counts_fresh : (ev : Evaluator S) (x : ℕ) (l : Option (ObjectList S)) (producer : Core) (variables : Variables S) → EvCounts ev → GoCounts r.limit (with_fresh r ev x l producer variables)
-    counts_fresh ev x None producer variables h state = tt
-    counts_fresh ev x (Some l) producer variables h state =
-        counts_state r.limit state (λ s. drop 1 s.objects) _ _ (h producer _ _)
+    counts_fresh : (ev : Evaluator S) (x : ℕ) (l : Option (ObjectList S)) (producer : Core) (variables : Variables S) → EvCounts ev → (m : ObjectList S) × (l ≡ Some m) → GoCounts r.limit (with_fresh r ev x l producer variables)
+    counts_fresh ev x None producer variables h e state = cc_none e.1
+      where
+        cc_none : {m : ObjectList S} → None ≡ Some m → ⊥
+        cc_none e = cc
+    counts_fresh ev x (Some l) producer variables h e state = counts_state r.limit state (λ s. drop 1 s.objects) _ _ (h producer _ _)
 
     -- ---- forms
 
@@ -305,7 +308,7 @@ module _ {S : Type 0} (r : Rules S) where
     counts_opened ev h (StobjLet names forms vars producer consumer) variables state =
         counts_all_borrowed names forms variables [] _ (λ loans. counts_with_loans ev vars producer consumer variables loans h) state
     counts_opened ev h (WithLocal object names producer body) variables state =
-        counts_then r.limit state _ _ (counts_counting r.limit state _ (counts_fresh ev object (r.fresh object) producer variables h))
+        counts_then r.limit state _ _ (counts_counting r.limit state _ (counts_fresh ev object (r.fresh object) producer variables h (g.known object)))
         (λ values after. h body (bound names values variables) after)
     counts_opened ev h (MustBeEqual logic exec) variables state = h logic variables state
     counts_opened ev h (Call f actuals) variables state = counts_in_order ev actuals variables [] _ h (λ values. counts_called ev f values h) state
@@ -323,7 +326,7 @@ module _ {S : Type 0} (r : Rules S) where
     stays_opened ev c h (StobjLet names forms vars producer consumer) variables state =
         stays_all_borrowed names forms variables [] _ (stays_without_loans ev vars producer consumer variables c h) state
     stays_opened ev c h (WithLocal object names producer body) variables state =
-        stays_then r.limit state _ _ (counts_counting r.limit state _ (counts_fresh ev object (r.fresh object) producer variables c))
+        stays_then r.limit state _ _ (counts_counting r.limit state _ (counts_fresh ev object (r.fresh object) producer variables c (g.known object)))
         (stays_counting r.limit state (with_fresh r ev object (r.fresh object) producer variables)) (λ values after. h body (bound names values variables) after)
     stays_opened ev c h (MustBeEqual logic exec) variables state = h logic variables state
     stays_opened ev c h (Call f actuals) variables state = stays_in_order ev actuals variables [] _ c h (λ values after. stays_called ev f values after) state
