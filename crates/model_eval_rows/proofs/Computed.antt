@@ -21,6 +21,7 @@ use Rattle.model_eval_rows.specs.Types.{TypesAreRight, type_rows}
 use Rattle.model_eval_rows.specs.ShownLists.{ShownAreRight, shown_rows}
 use Rattle.model_eval_rows.specs.Several.{child_rows, congruent_rows}
 use Rattle.model_eval_rows.specs.Abstract.{abstract_rows}
+use Rattle.model_eval_rows.specs.StackMachine.{machine_rows}
 use Rattle.model_eval_rows.specs.Fields.{array_rows, hash_rows}
 
 pub counting : AreRight counting_rows
@@ -80,3 +81,7 @@ corresponding = record {
     tt,
   );
 }
+
+pub stack_machine : AreRight machine_rows
+unfolding machine_rows guard recognizer_guard relation_guard arithmetic_guard listing_guard naming_guard wanted recognized related computed listed named_by applied_to bounded accessed changed lengthened hash_read hash_bound hash_looked_up hash_put hash_removed layout_within effect exec_called called in_order all_borrowed put_back evaluated
+stack_machine = record { all = refl }

@@ -7,3 +7,4 @@ pub mod Types
 pub mod ShownLists
 pub mod Logic
 pub mod Abstractly
+pub mod StackMachine

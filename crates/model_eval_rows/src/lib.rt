@@ -6,6 +6,7 @@ ghost use Rattle.model_eval_rows.specs.Counting.{counting_rows};
 ghost use Rattle.model_eval_rows.specs.Abstractly.{AbstractlyRight, Corresponds};
 ghost use Rattle.model_eval_rows.specs.Abstractly as abstractly;
 ghost use Rattle.model_eval_rows.specs.Logic.{LogicIsRight, logic_rows, odd_rows};
+ghost use Rattle.model_eval_rows.specs.StackMachine.{machine_rows};
 ghost use Rattle.model_eval_rows.specs.Types.{TypesAreRight, type_rows};
 ghost use Rattle.model_eval_rows.specs.ShownLists.{ShownAreRight, shown_rows};
 ghost use Rattle.model_eval_rows.specs.Several.{child_rows, congruent_rows};
@@ -82,4 +83,10 @@ pub fn abstract_values()
 #[tactic(auto, using(crate::proofs::Computed::corresponding))]
 pub fn corresponding_lists()
     ensures { Corresponds }
+{}
+
+/// The programs of a small stack machine.
+#[tactic(auto, using(crate::proofs::Computed::stack_machine))]
+pub fn stack_machine()
+    ensures { AreRight machine_rows }
 {}
