@@ -8,3 +8,4 @@ pub mod ShownLists
 pub mod Logic
 pub mod Abstractly
 pub mod StackMachine
+pub mod Nested
