@@ -6,3 +6,4 @@ pub mod Lists
 pub mod Frame
 pub mod FrameLemmas
 pub mod BudgetLemmas
+pub mod OpeningLemmas

@@ -3,3 +3,4 @@ pub mod Laws
 pub mod Counting
 pub mod Scope
 pub mod Budgets
+pub mod Opening

@@ -4,6 +4,7 @@
 ghost use Rattle.model_eval_laws.specs.Laws.{AgreesUntilLimit, KeepsOutcomes};
 ghost use Rattle.model_eval_laws.specs.Counting.{CountsCalls};
 ghost use Rattle.model_eval_laws.specs.Budgets.{IsSameAtLargerBudgets};
+ghost use Rattle.model_eval_laws.specs.Opening.{OpensForms};
 ghost use Rattle.model_eval_laws.specs.Scope.{LeavesOthers};
 
 /// A larger limit of calls or of open forms changes nothing, unless the smaller one was met.
@@ -35,4 +36,10 @@ pub fn other_objects_are_left()
 #[tactic(auto, using(crate::proofs::BudgetLemmas::is_same_at_larger_budgets))]
 pub fn larger_budgets_give_the_same()
     ensures { IsSameAtLargerBudgets }
+{}
+
+/// No more forms are open at once than the limit.
+#[tactic(auto, using(crate::proofs::OpeningLemmas::opens_forms))]
+pub fn open_forms_are_limited()
+    ensures { OpensForms }
 {}
