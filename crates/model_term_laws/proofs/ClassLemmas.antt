@@ -1,10 +1,12 @@
 -- Congruence.
-use Rattle.std.proofs.Common.{◌≡◌, ℕ, [], ◌∷◌, refl, ap, sym, ◌∙◌}
-use Rattle.std.specs.Prelude.{Option, Some, None, Bool, true, false, nat_eq, is_some, option_and_then}
+use Rattle.std.proofs.Common.{◌≡◌, ℕ, [], ◌∷◌, ◌++◌, refl, ap, sym, ◌∙◌}
+use Rattle.std.specs.Prelude.{Option, Some, None, Bool, true, false, nat_eq, map, is_some, option_and_then}
+use Rattle.std.specs.List.{AllByRecursion}
+use Rattle.std.proofs.lemmas.Map.Keys.{IsDistinct-head, IsDistinct-tail}
 use Rattle.std.proofs.lemmas.Bool.{eqb-true, eq-eqb}
-use Rattle.model_terms.specs.Worlds.{World, Definition, Primitive, Concrete, Abstract, Descriptor, AbstractDescriptor, name_of, definition}
+use Rattle.model_terms.specs.Worlds.{World, HasDistinctNames, Definition, Primitive, Concrete, Abstract, Descriptor, AbstractDescriptor, name_of, definition}
 use Rattle.model_terms.specs.Classes.{class_in, class_of, same_class}
-use Rattle.model_term_laws.specs.Laws.{IsEquivalence, HasConcreteClasses, IsAlone}
+use Rattle.model_term_laws.specs.Laws.{FindsByName, IsEquivalence, HasConcreteClasses, IsAlone}
 
 false_true : {A : Type 0} → false ≡ true → A
 false_true e = cc
@@ -88,3 +90,18 @@ is_alone =
       alone = λ w x y d all h same.
           other_of w x y d all h (found_name w x (Abstract d) h) (definition w y) refl (rw h at same);
     }
+
+-- ---- worlds
+
+differs : (x : ℕ) (before after : World) (d : Definition) → AllByRecursion (λ y. nat_eq x y ≡ false) (map name_of (before ++ d ∷ after)) → nat_eq x (name_of d) ≡ false
+differs x [] after d all = all.0
+differs x (e ∷ before) after d all = differs x before after d all.1
+
+found : (before after : World) (d : Definition) → HasDistinctNames (before ++ d ∷ after) → definition (before ++ d ∷ after) (name_of d) ≡ Some d
+found [] after d distinct = rw (eq-eqb (name_of d) (name_of d) refl) refl
+found (e ∷ before) after d distinct =
+    let apart : nat_eq (name_of d) (name_of e) ≡ false = eq_swap (name_of d) (name_of e) ∙ differs (name_of e) before after d (IsDistinct-head nat_eq (name_of e) (map name_of (before ++ d ∷ after)) distinct) in
+    rw apart (found before after d (IsDistinct-tail nat_eq (name_of e) (map name_of (before ++ d ∷ after)) distinct))
+
+pub finds_by_name : FindsByName
+finds_by_name = record { named = found_name; found = found }

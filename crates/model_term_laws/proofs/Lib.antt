@@ -5,3 +5,4 @@ pub mod GrowthLemmas
 pub mod RoundLemmas
 pub mod ExpectedLemmas
 pub mod PlaceLemmas
+pub mod PartLemmas

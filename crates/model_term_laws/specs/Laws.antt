@@ -10,7 +10,7 @@ use Rattle.model_terms.specs.declared.rule.Rule.TheVariants.{S1, S2, S3, S4, S5,
 use Rattle.model_terms.specs.declared.rule.Mode.{Mode}
 use Rattle.model_terms.specs.declared.rule.Mode.TheVariants.{Logic}
 use Rattle.model_terms.specs.Cores.{Core, Place, form_at}
-use Rattle.model_terms.specs.Worlds.{World, Concrete, Abstract, Descriptor, AbstractDescriptor, Out, Signature, Scope, definition}
+use Rattle.model_terms.specs.Worlds.{World, Definition, Concrete, Abstract, Descriptor, AbstractDescriptor, Out, Signature, Scope, name_of, HasDistinctNames, definition}
 use Rattle.model_terms.specs.Classes.{is_object_name, congruent, objects, repeats, all_congruent, renamed_out, instance_of}
 use Rattle.model_terms.specs.Outputs.{Known, signature_of, outputs, outs}
 use Rattle.model_terms.specs.Rounds.{Member, round, known_at_last}
@@ -18,6 +18,13 @@ use Rattle.model_terms.specs.Sites.{Placed, sites}
 use Rattle.model_terms.specs.Rules.{fails}
 use Rattle.model_terms.specs.Faults.{Fault, first_fault}
 use Rattle.model_term_laws.specs.Names.{Names}
+
+-- ---- worlds
+
+-- a definition is found by its name alone
+pub record FindsByName : Type 0 where
+  pub named : (w : World) (x : ℕ) (d : Definition) → definition w x ≡ Some d → x ≡ name_of d
+  pub found : (before after : World) (d : Definition) → HasDistinctNames (before ++ d ∷ after) → definition (before ++ d ∷ after) (name_of d) ≡ Some d
 
 -- ---- congruence
 

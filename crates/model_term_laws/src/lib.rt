@@ -1,7 +1,14 @@
 //! Laws of congruence, of instances, of outputs by text and of the first fault.
 #![tactic(auto)]
 
-ghost use Rattle.model_term_laws.specs.Laws.{IsEquivalence, IsAlone, IsInstance, ArePlaces, FindsFirst, KeepsOutputs, Settles, GivesExpected};
+ghost use Rattle.model_term_laws.specs.Laws.{FindsByName, IsEquivalence, IsAlone, IsInstance, ArePlaces, FindsFirst, KeepsOutputs, Settles, GivesExpected};
+ghost use Rattle.model_term_laws.specs.Parts.{GoesDown};
+
+/// A definition is found by its name.
+#[tactic(auto, using(crate::proofs::ClassLemmas::finds_by_name))]
+pub fn definitions_are_found_by_name()
+    ensures { FindsByName }
+{}
 
 /// Congruence parts the objects into classes.
 #[tactic(auto, using(crate::proofs::ClassLemmas::is_equivalence))]
@@ -31,6 +38,12 @@ pub fn sites_are_places()
 #[tactic(auto, using(crate::proofs::FirstLemmas::finds_first))]
 pub fn first_fault_is_first()
     ensures { FindsFirst }
+{}
+
+/// The first fault of a form is its own, else that of the first child that has one.
+#[tactic(auto, using(crate::proofs::PartLemmas::goes_down))]
+pub fn faults_go_down()
+    ensures { GoesDown }
 {}
 
 /// New definitions leave the outputs of a form as they were.

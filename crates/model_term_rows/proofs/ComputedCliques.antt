@@ -5,7 +5,7 @@ use Rattle.model_terms.specs.Sites.{below}
 use Rattle.model_terms.specs.Nested.{stobj_let_holds, with_local_holds}
 use Rattle.model_terms.specs.Faults.{first_in, first_fault}
 use Rattle.model_term_rows.specs.Book.{book}
-use Rattle.model_term_rows.specs.Cliques.{AreAdmitted, rounds_examples, head_examples, unrunnable_examples, AreMacros, macro_examples, AreConstants, AreOutputs}
+use Rattle.model_term_rows.specs.Cliques.{AreAdmitted, rounds_examples, head_examples, unrunnable_examples, AreMacros, macro_examples, AreConstants, AreExpressions, AreOutputs}
 
 pub rounds_are_right : AreAdmitted rounds_examples
 unfolding book outputs below stobj_let_holds with_local_holds first_in first_fault
@@ -42,3 +42,7 @@ outputs_are_right =
       unseen = refl;
       consumer = refl;
     }
+
+pub expressions_are_right : AreExpressions
+unfolding book outputs below stobj_let_holds with_local_holds first_in first_fault
+expressions_are_right = record { two_bound = refl; exchanged = refl; twice = refl; given_twice = refl; nested = refl; value_and_object = refl }

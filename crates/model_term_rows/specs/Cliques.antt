@@ -3,11 +3,11 @@ use Rattle.std.specs.Prelude.{◌≡◌, ℕ, List, [], ◌∷◌, ◌++◌, map
 use Rattle.std.specs.List.{zip}
 use Rattle.model_terms.specs.Cores.{Core, If, Let, Mv, MvLet, StobjLet, cores}
 use Rattle.model_terms.specs.Worlds.{World, Definition, Named, Signed, Out, Stobj, Signature, MacroFormals, OptionalFormal}
-use Rattle.model_terms.specs.declared.rule.Rule.TheVariants.{S1, S3, S7, S8, S10, S11, S13, S15, S16}
+use Rattle.model_terms.specs.declared.rule.Rule.TheVariants.{S1, S2, S3, S4, S7, S8, S9, S10, S11, S13, S15, S16}
 use Rattle.model_terms.specs.Outputs.{outputs}
 use Rattle.model_terms.specs.Rounds.{Member, clique}
-use Rattle.model_terms.specs.Faults.{Fault, clique_fault, macro_fault, constant_fault}
-use Rattle.model_term_rows.specs.Book.{book, st, st2, kid, kid2, par, get_a, update_a, update_b, ki, pop, pair, pick, u, v, x, y, i, var, number, null_object, null, call, o, takes, all_objects, of_value}
+use Rattle.model_terms.specs.Faults.{Fault, clique_fault, macro_fault, constant_fault, expression_fault}
+use Rattle.model_term_rows.specs.Book.{book, st, st2, kid, kid2, par, get_a, update_a, update_b, both, ki, pop, pair, pick, u, v, x, y, i, var, number, null_object, null, call, o, takes, all_objects, of_value}
 use Rattle.model_term_rows.specs.Examples.{holds, fault}
 
 -- ---- functions of a clique, which stand in no world
@@ -203,6 +203,19 @@ pub record AreConstants : Type 0 where
   pub unbound : constant_fault book (var x) ≡ fault S11 []
   pub of_object_name : constant_fault book (call pair (number 1 ∷ var st ∷ [])) ≡ fault S15 (1 ∷ [])
   pub two_values : constant_fault book (call pick (number 1 ∷ [])) ≡ fault S8 []
+
+-- ---- expressions
+
+pub record AreExpressions : Type 0 where
+  -- `(let ((x (a st)) (st (update-a 1 st))) (mv x st))`
+  pub two_bound : expression_fault book all_objects (Let (x ∷ st ∷ []) (cores (call get_a (var st ∷ []) ∷ call update_a (number 1 ∷ var st ∷ []) ∷ [])) (Mv (cores (var x ∷ var st ∷ [])))) ≡ fault S4 []
+  -- `(both st2 st)`, `(both st st)`, `(mv st st)`, `(update-a 1 (update-a 2 st))`
+  pub exchanged : expression_fault book all_objects (call both (var st2 ∷ var st ∷ [])) ≡ holds
+  pub twice : expression_fault book all_objects (call both (var st ∷ var st ∷ [])) ≡ fault S2 []
+  pub given_twice : expression_fault book all_objects (Mv (cores (var st ∷ var st ∷ []))) ≡ fault S9 []
+  pub nested : expression_fault book all_objects (call update_a (number 1 ∷ call update_a (number 2 ∷ var st ∷ []) ∷ [])) ≡ fault S1 (1 ∷ [])
+  -- `(mv (a st) st)`
+  pub value_and_object : expression_fault book all_objects (Mv (cores (call get_a (var st ∷ []) ∷ var st ∷ []))) ≡ holds
 
 -- ---- outputs by text
 

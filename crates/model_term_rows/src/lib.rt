@@ -8,7 +8,7 @@ ghost use Rattle.model_term_rows.specs.Bindings.{lets, several_values};
 ghost use Rattle.model_term_rows.specs.Children.{accepted_children, refused_children, refused_parts};
 ghost use Rattle.model_term_rows.specs.Locals.{local_objects};
 ghost use Rattle.model_term_rows.specs.Modes.{macros, functions_that_do_not_run};
-ghost use Rattle.model_term_rows.specs.Cliques.{AreAdmitted, rounds_examples, head_examples, unrunnable_examples, AreMacros, macro_examples, AreConstants, AreOutputs};
+ghost use Rattle.model_term_rows.specs.Cliques.{AreAdmitted, rounds_examples, head_examples, unrunnable_examples, AreMacros, macro_examples, AreConstants, AreExpressions, AreOutputs};
 
 #[tactic(auto, using(crate::proofs::Computed::object_positions_are_right))]
 pub fn object_positions()
@@ -98,4 +98,9 @@ pub fn constants()
 #[tactic(auto, using(crate::proofs::ComputedCliques::outputs_are_right))]
 pub fn outputs()
     ensures { AreOutputs }
+{}
+
+#[tactic(auto, using(crate::proofs::ComputedCliques::expressions_are_right))]
+pub fn expressions()
+    ensures { AreExpressions }
 {}

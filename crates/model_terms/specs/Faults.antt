@@ -12,7 +12,7 @@ use Rattle.model_terms.specs.Classes.{is_object_name, has}
 use Rattle.model_terms.specs.Outputs.{outs, signature_of}
 use Rattle.model_terms.specs.Children.{runs}
 use Rattle.model_terms.specs.Rounds.{Member, formal_scope}
-use Rattle.model_terms.specs.Sites.{Site, Placed, one_ordinary, sites}
+use Rattle.model_terms.specs.Sites.{Site, Placed, here, below, one_ordinary, sites}
 use Rattle.model_terms.specs.Rules.{fails}
 
 pub record Fault : Type 0 where
@@ -33,6 +33,10 @@ fault_at w mode p = option_map (λ r. record { rule = r; place = p.place }) (fir
 unfoldable pub first_in : World → Mode → List Placed → Option Fault
 first_in w mode [] = None
 first_in w mode (p ∷ ps) = option_or (fault_at w mode p) (first_in w mode ps)
+
+-- the first fault at a form and below it, where the form may be an actual in the position of an object
+unfoldable pub first_at : World → Mode → Scope → Core → Option ℕ → List Out → Option Fault
+first_at w mode scope f formal expected = first_in w mode (here f scope formal expected ∷ below w scope f expected)
 
 -- the first fault of a form in a scope of which these outputs are expected
 unfoldable pub first_fault : World → Mode → Scope → Core → List Out → Option Fault

@@ -46,6 +46,9 @@ actual_kind Ordinary v = Ordinary
 actual_kind (Stobj x) None = Stobj x
 actual_kind (Stobj x) (Some y) = Stobj y
 
+abbrev pub actual_expected : Out → Core → List Out
+actual_expected kind f = actual_kind kind (variable f) ∷ []
+
 -- the variable of the parent that the first binding of a `STOBJ-LET` names
 abbrev pub parent_in : Cores → Option ℕ
 parent_in none = None
@@ -54,45 +57,42 @@ parent_in (more f fs) = option_map (λ r. r.parent) (reached f)
 abbrev pub here : Core → Scope → Option ℕ → List Out → Placed
 here f scope formal expected = record { place = []; site = record { form = f; scope = scope; formal = formal; expected = expected } }
 
+-- the places of child number k: its root, and those below it
+abbrev pub child : ℕ → Core → Scope → List Out → List Placed → List Placed
+child k f scope expected inner = map (down k) (here f scope None expected ∷ inner)
+
 unfoldable mutual
   -- the places below a form
   pub below : World → Scope → Core → List Out → List Placed
   below w scope (Var x) expected = []
   below w scope (Const o) expected = []
   below w scope (If a b c) expected =
-      map (down 0) (here a scope None one_ordinary ∷ below w scope a one_ordinary)
-      ++ (map (down 1) (here b scope None expected ∷ below w scope b expected) ++ map (down 2) (here c scope None expected ∷ below w scope c expected))
+      child 0 a scope one_ordinary (below w scope a one_ordinary) ++ (child 1 b scope expected (below w scope b expected) ++ child 2 c scope expected (below w scope c expected))
   below w scope (Let names bound body) expected =
-      below_parts w scope (name_kinds w names) 0 bound
-      ++ map (down (count bound)) (here body (binding w scope names) None expected ∷ below w (binding w scope names) body expected)
+      below_parts w scope (name_kinds w names) 0 bound ++ child (count bound) body (binding w scope names) expected (below w (binding w scope names) body expected)
   below w scope (Mv parts) expected = below_parts w scope expected 0 parts
   below w scope (MvLet names bound body) expected =
-      map (down 0) (here bound scope None (name_kinds w names) ∷ below w scope bound (name_kinds w names))
-      ++ map (down 1) (here body (binding w scope names) None expected ∷ below w (binding w scope names) body expected)
+      child 0 bound scope (name_kinds w names) (below w scope bound (name_kinds w names)) ++ child 1 body (binding w scope names) expected (below w (binding w scope names) body expected)
   below w scope (StobjLet names bound vars producer consumer) expected =
-      map (down 0) (here producer (producer_scope w scope (parent_in bound) names) None (name_kinds w vars) ∷ below w (producer_scope w scope (parent_in bound) names) producer (name_kinds w vars))
-      ++ map (down 1) (here consumer (consumer_scope w scope names vars) None expected ∷ below w (consumer_scope w scope names vars) consumer expected)
+      child 0 producer (producer_scope w scope (parent_in bound) names) (name_kinds w vars) (below w (producer_scope w scope (parent_in bound) names) producer (name_kinds w vars))
+      ++ child 1 consumer (consumer_scope w scope names vars) expected (below w (consumer_scope w scope names vars) consumer expected)
   below w scope (WithLocal object names producer body) expected =
-      map (down 0) (here producer (local_scope w scope object) None (name_kinds w names) ∷ below w (local_scope w scope object) producer (name_kinds w names))
-      ++ map (down 1) (here body (body_scope w scope object names) None expected ∷ below w (body_scope w scope object names) body expected)
-  below w scope (MustBeEqual logic exec) expected =
-      map (down 0) (here logic scope None expected ∷ below w scope logic expected) ++ map (down 1) (here exec scope None expected ∷ below w scope exec expected)
+      child 0 producer (local_scope w scope object) (name_kinds w names) (below w (local_scope w scope object) producer (name_kinds w names))
+      ++ child 1 body (body_scope w scope object names) expected (below w (body_scope w scope object names) body expected)
+  below w scope (MustBeEqual logic exec) expected = child 0 logic scope expected (below w scope logic expected) ++ child 1 exec scope expected (below w scope exec expected)
   below w scope (Call f actuals) expected = below_actuals w scope (ins_of w f) 0 actuals
 
   -- forms of which each is expected to give one output: those bound to names, and the parts of an `MV`
   pub below_parts : World → Scope → List Out → ℕ → Cores → List Placed
   below_parts w scope kinds k none = []
   below_parts w scope kinds k (more f fs) =
-      map (down k) (here f scope None (first_kind kinds ∷ []) ∷ below w scope f (first_kind kinds ∷ []))
-      ++ below_parts w scope (other_kinds kinds) (k + 1) fs
+      child k f scope (first_kind kinds ∷ []) (below w scope f (first_kind kinds ∷ [])) ++ below_parts w scope (other_kinds kinds) (k + 1) fs
 
   -- the actuals of a call
   pub below_actuals : World → Scope → List Out → ℕ → Cores → List Placed
   below_actuals w scope ins k none = []
   below_actuals w scope ins k (more f fs) =
-      map (down k)
-      (here f scope (formal_object (first_kind ins)) (actual_kind (first_kind ins) (variable f) ∷ [])
-      ∷ below w scope f (actual_kind (first_kind ins) (variable f) ∷ []))
+      map (down k) (here f scope (formal_object (first_kind ins)) (actual_expected (first_kind ins) f) ∷ below w scope f (actual_expected (first_kind ins) f))
       ++ below_actuals w scope (other_kinds ins) (k + 1) fs
 
 -- all places of a form, from its root

@@ -1,6 +1,6 @@
 -- Worlds: the definitions that stand, by the numbers of their names.
-use Rattle.std.specs.Prelude.{ℕ, List, Bool, Option, nat_eq}
-use Rattle.std.specs.List.{find}
+use Rattle.std.specs.Prelude.{ℕ, List, map, Bool, Option, nat_eq}
+use Rattle.std.specs.List.{find, IsDistinct}
 use Rattle.acl_base.specs.declared.layout.Test.{Test}
 use Rattle.model_objects.specs.Object.{Object}
 use Rattle.model_prims.specs.Rows.{Row}
@@ -128,9 +128,13 @@ name_of (OfAbstract f) = f.name
 name_of (Named name formals) = name
 name_of (Signed name formals signature executable) = name
 
--- definitions with different names, in the order in which they were admitted
+-- definitions, in the order in which they were admitted
 abbrev pub World : Type 0
 World = List Definition
+
+-- no two definitions have one name
+abbrev pub HasDistinctNames : World → Type 0
+HasDistinctNames w = IsDistinct nat_eq (map name_of w)
 
 -- the definition of a name
 abbrev pub definition : World → ℕ → Option Definition

@@ -1,4 +1,4 @@
-//! Core forms, worlds, and the check that objects are used by one thread. Definitions, and laws about them.
+//! Core forms, worlds, and the rules that keep objects single-threaded: the definitions.
 #![tactic(auto)]
 
 mod role;
