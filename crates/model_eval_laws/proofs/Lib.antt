@@ -7,3 +7,5 @@ pub mod Frame
 pub mod FrameLemmas
 pub mod BudgetLemmas
 pub mod OpeningLemmas
+pub mod Cut
+pub mod CutLemmas

@@ -4,3 +4,4 @@ pub mod Counting
 pub mod Scope
 pub mod Budgets
 pub mod Opening
+pub mod Cutting

@@ -4,6 +4,7 @@
 ghost use Rattle.model_eval_laws.specs.Laws.{AgreesUntilLimit, KeepsOutcomes};
 ghost use Rattle.model_eval_laws.specs.Counting.{CountsCalls};
 ghost use Rattle.model_eval_laws.specs.Budgets.{IsSameAtLargerBudgets};
+ghost use Rattle.model_eval_laws.specs.Cutting.{IsCut};
 ghost use Rattle.model_eval_laws.specs.Opening.{OpensForms};
 ghost use Rattle.model_eval_laws.specs.Scope.{LeavesOthers};
 
@@ -42,4 +43,10 @@ pub fn larger_budgets_give_the_same()
 #[tactic(auto, using(crate::proofs::OpeningLemmas::opens_forms))]
 pub fn open_forms_are_limited()
     ensures { OpensForms }
+{}
+
+/// An evaluation that is cut at a limit of calls is the beginning of the one that goes on.
+#[tactic(auto, using(crate::proofs::CutLemmas::is_cut))]
+pub fn cut_evaluations_come_before()
+    ensures { IsCut }
 {}
