@@ -9,3 +9,4 @@ pub mod BudgetLemmas
 pub mod OpeningLemmas
 pub mod Cut
 pub mod CutLemmas
+pub mod WordLemmas

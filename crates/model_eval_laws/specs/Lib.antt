@@ -5,3 +5,4 @@ pub mod Scope
 pub mod Budgets
 pub mod Opening
 pub mod Cutting
+pub mod Words

@@ -7,6 +7,7 @@ ghost use Rattle.model_eval_laws.specs.Budgets.{IsSameAtLargerBudgets};
 ghost use Rattle.model_eval_laws.specs.Cutting.{IsCut};
 ghost use Rattle.model_eval_laws.specs.Opening.{OpensForms};
 ghost use Rattle.model_eval_laws.specs.Scope.{LeavesOthers};
+ghost use Rattle.model_eval_laws.specs.Words.{IsStobjLetWord};
 
 /// A larger limit of calls or of open forms changes nothing, unless the smaller one was met.
 #[tactic(auto, using(crate::proofs::LimitLemmas::agrees_until_limit))]
@@ -49,4 +50,10 @@ pub fn open_forms_are_limited()
 #[tactic(auto, using(crate::proofs::CutLemmas::is_cut))]
 pub fn cut_evaluations_come_before()
     ensures { IsCut }
+{}
+
+/// `STOBJ-LET` has the number that it is taken to have.
+#[tactic(auto, using(crate::proofs::WordLemmas::is_stobj_let_word))]
+pub fn stobj_let_is_named()
+    ensures { IsStobjLetWord }
 {}

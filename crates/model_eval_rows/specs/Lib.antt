@@ -9,3 +9,4 @@ pub mod Logic
 pub mod Abstractly
 pub mod StackMachine
 pub mod Nested
+pub mod Words

@@ -13,6 +13,7 @@ ghost use Rattle.model_eval_rows.specs.ShownLists.{ShownAreRight, shown_rows};
 ghost use Rattle.model_eval_rows.specs.Several.{child_rows, congruent_rows};
 ghost use Rattle.model_eval_rows.specs.Abstract.{abstract_rows};
 ghost use Rattle.model_eval_rows.specs.Fields.{array_rows, hash_rows};
+ghost use Rattle.model_eval_rows.specs.Words.{AreNamed};
 
 /// Calls and limits, guards, several values, and a local object.
 #[tactic(auto, using(crate::proofs::Computed::counting))]
@@ -108,4 +109,10 @@ pub fn children_of_children()
 #[tactic(auto, using(crate::proofs::Computed::many_calls))]
 pub fn many_calls()
     ensures { AreRight counted_rows }
+{}
+
+/// The primitives that rows call have the numbers of their names.
+#[tactic(auto, using(crate::proofs::Computed::words))]
+pub fn words_are_named()
+    ensures { AreNamed }
 {}
