@@ -1,22 +1,21 @@
 -- An evaluation with a smaller limit of calls is the one with a larger limit, or was cut.
-use Rattle.std.proofs.Common.{◌≡◌, ℕ, zero, suc, ◌+◌, ◌<◌, ◌≤◌, List, [], ◌∷◌, ◌++◌, length, drop, map, Bool, true, false, Option, Some, None, refl, sym, ap, ◌∙◌, arith, inl, inr}
-use Rattle.std.specs.Prelude.{nat_lt, nat_eq, if◌then◌else◌, ◌⊎◌}
+use Rattle.std.proofs.Common.{◌≡◌, ℕ, zero, suc, ◌≤◌, List, [], ◌∷◌, ◌++◌, drop, Bool, true, false, Option, Some, None, refl, ap, arith, inl, inr}
+use Rattle.std.specs.Prelude.{nat_lt, nat_eq, if◌then◌else◌}
 use Rattle.std.specs.List.{list_any}
 use Rattle.std.proofs.lemmas.Bool.Decides.{nat_tests}
 use Rattle.model_lists.specs.Lists.{ObjectList, item}
-use Rattle.model_symbols.specs.Symbols.{QualifiedName}
 use Rattle.model_terms.specs.Cores.{Core, Cores, Reached, Var, Const, If, Let, Mv, MvLet, StobjLet, WithLocal, MustBeEqual, Call, none, more, reached}
-use Rattle.model_terms.specs.Worlds.{World, Definition, FunctionOfAbstract, definition, Primitive, Defined, Macro, Constant, Concrete, Generated, Abstract, OfAbstract, Named, Signed}
+use Rattle.model_terms.specs.Worlds.{Definition, FunctionOfAbstract, definition, Primitive, Defined, Macro, Constant, Concrete, Generated, Abstract, OfAbstract, Named, Signed}
 use Rattle.model_terms.specs.declared.role.AbstractRole.{AbstractRole}
 use Rattle.model_terms.specs.declared.role.AbstractRole.TheVariants as abstract_role
-use Rattle.model_eval.specs.Outcomes.{Shown, Plain, Stobj, Stop, Guard, Steps, Depth, Objects, State, Ended, Gives, Stops, Unknown, then_with, with_state, one_more_call, counting}
-use Rattle.model_eval.specs.Scopes.{Variables, variable_in, bound, single, inner_variables, inner_state, outer_state, outer_value, back, list_of}
-use Rattle.model_eval.specs.Children.{Loan, is_reached, loan_values, are_twins, all_put, put_into_parent, without_innermost, returned}
-use Rattle.model_eval.specs.Evaluated.{Rules, Evaluator, is_false, scoped, guarded, refused, of_abstract, by_definition, exec_called, called, in_order, leaf, leaf_or, loan_of, borrowing, borrowed_from, borrowed, all_borrowed, put_back, lending, loaned_variables, producing, with_loans, with_fresh, opened, evaluated}
+use Rattle.model_eval.specs.Outcomes.{Shown, Plain, Stobj, Stop, Guard, Steps, Objects, State, Ended, Gives, Stops, Unknown, then_with, with_state, one_more_call, counting}
+use Rattle.model_eval.specs.Scopes.{Variables, variable_in, bound, single, inner_variables, inner_state, outer_state, back, list_of}
+use Rattle.model_eval.specs.Children.{Loan, is_reached, loan_values, are_twins, put_into_parent, returned}
+use Rattle.model_eval.specs.Evaluated.{Rules, Evaluator, is_false, scoped, guarded, of_abstract, by_definition, exec_called, called, in_order, leaf, leaf_or, loan_of, borrowing, borrowed_from, borrowed, all_borrowed, put_back, lending, loaned_variables, producing, with_loans, with_fresh, opened, evaluated}
 use Rattle.model_eval_laws.specs.Laws.{IsSteps}
-use Rattle.model_eval_laws.specs.Counting.{Grown, Counts}
+use Rattle.model_eval_laws.specs.Counting.{Counts}
 use Rattle.model_eval_laws.specs.Cutting.{Cuts}
-use Rattle.model_eval_laws.proofs.Counts.{grown_same, grown_objects, GoCounts, counts_then, counts_objects, counts_counting, RulesCount, counts_scoped, counts_abstract, counts_definition, counts_exec, counts_called, counts_in_order, counts_all_borrowed, counts_put_back, counts_with_loans, counts_fresh, counts_producing, counts_evaluated, counts_if, counts_borrowed}
+use Rattle.model_eval_laws.proofs.Counts.{grown_same, grown_objects, GoCounts, counts_then, counts_objects, counts_counting, RulesCount, counts_scoped, counts_abstract, counts_definition, counts_exec, counts_called, counts_in_order, counts_all_borrowed, counts_put_back, counts_with_loans, counts_fresh, counts_evaluated, counts_if}
 
 pub below_larger : (n k limit : ℕ) → k ≤ limit → nat_lt n k ≡ true → nat_lt n limit ≡ true
 below_larger n k limit h e = grind (arith, nat_tests)
@@ -108,8 +107,8 @@ module _ {S : Type 0} (r : Rules S) (limit : ℕ) (larger : r.limit ≤ limit) (
     cuts_guarded : (ev eu : Evaluator S) (name : ℕ) (formals : List ℕ) (guard : Core) (values : List (Shown S)) (go to : State S → Ended S) → EvCuts ev eu → ToCuts limit go to → GoCounts limit to → ToCuts limit (guarded r ev name formals guard values go) (guarded longer_rules eu name formals guard values to)
     cuts_guarded ev eu name formals guard values go to h k c state =
         cuts_then limit _ _ _ _ (cuts_scoped ev eu formals values guard h state)
-          (λ test after. cuts_if limit (is_false r test) _ _ _ _ (inr refl) (k after))
-          (λ test after. counts_if limit after (is_false r test) _ _ (stopped after (Guard name values) (λ q. q)) (c after))
+        (λ test after. cuts_if limit (is_false r test) _ _ _ _ (inr refl) (k after))
+        (λ test after. counts_if limit after (is_false r test) _ _ (stopped after (Guard name values) (λ q. q)) (c after))
 
     cuts_abstract : (ev eu : Evaluator S) (exec to : ℕ → State S → Ended S) (f : FunctionOfAbstract) (role : AbstractRole) (values : List (Shown S)) → EvCuts ev eu → ToCuts limit (exec f.exec) (to f.exec) → GoCounts limit (to f.exec) → ToCuts limit (of_abstract r ev exec f role values) (of_abstract longer_rules eu to f role values)
     cuts_abstract ev eu exec to f abstract_role.Recognizer values h k c state = refl
@@ -139,9 +138,9 @@ module _ {S : Type 0} (r : Rules S) (limit : ℕ) (larger : r.limit ≤ limit) (
     unfolding called
     cuts_called ev eu name values h c state =
         cuts_counting limit r.limit larger state _ _
-          (cuts_definition ev eu _ _ (definition r.world name) name values h c
-            (λ f. cuts_abstract ev eu (exec_called r ev values) (exec_called longer_rules eu values) f f.role values h (cuts_exec ev eu values f.exec h c) (counts_exec longer_rules g eu values f.exec c)))
-          (counts_definition longer_rules g eu _ (definition r.world name) name values c (λ f. counts_abstract longer_rules g eu (exec_called longer_rules eu values) f f.role values c (counts_exec longer_rules g eu values f.exec c)))
+        (cuts_definition ev eu _ _ (definition r.world name) name values h c
+        (λ f. cuts_abstract ev eu (exec_called r ev values) (exec_called longer_rules eu values) f f.role values h (cuts_exec ev eu values f.exec h c) (counts_exec longer_rules g eu values f.exec c)))
+        (counts_definition longer_rules g eu _ (definition r.world name) name values c (λ f. counts_abstract longer_rules g eu (exec_called longer_rules eu values) f f.role values c (counts_exec longer_rules g eu values f.exec c)))
 
     -- ---- parts
 
@@ -150,8 +149,8 @@ module _ {S : Type 0} (r : Rules S) (limit : ℕ) (larger : r.limit ≤ limit) (
     cuts_in_order ev eu none variables done go to h c k q state = k done state
     cuts_in_order ev eu (more form forms) variables done go to h c k q state =
         cuts_then limit _ _ _ _ (h form variables state)
-          (λ values after. cuts_in_order ev eu forms variables (done ++ single r.kind values ∷ []) go to h c k q after)
-          (λ values. counts_in_order longer_rules g eu forms variables (done ++ single r.kind values ∷ []) to c q)
+        (λ values after. cuts_in_order ev eu forms variables (done ++ single r.kind values ∷ []) go to h c k q after)
+        (λ values. counts_in_order longer_rules g eu forms variables (done ++ single r.kind values ∷ []) to c q)
 
     -- ---- children
 
@@ -160,8 +159,8 @@ module _ {S : Type 0} (r : Rules S) (limit : ℕ) (larger : r.limit ≤ limit) (
     cuts_borrowed_from child by (Stobj p) variables go to k c state =
         let loan = loan_of r child p by variables in
         cuts_counting limit r.limit larger state (borrowing r by.accessor loan (go loan)) (borrowing longer_rules by.accessor loan (to loan))
-          (λ after. cuts_if limit (is_reached loan.index (item loan.field (list_of after.objects loan.parent))) _ _ _ _ (k loan after) (inr refl))
-          (λ after. counts_if limit after (is_reached loan.index (item loan.field (list_of after.objects loan.parent))) (to loan after) _ (c loan after) (stopped after (Guard by.accessor (loan_values loan)) (λ q. q)))
+        (λ after. cuts_if limit (is_reached loan.index (item loan.field (list_of after.objects loan.parent))) _ _ _ _ (k loan after) (inr refl))
+        (λ after. counts_if limit after (is_reached loan.index (item loan.field (list_of after.objects loan.parent))) (to loan after) _ (c loan after) (stopped after (Guard by.accessor (loan_values loan)) (λ q. q)))
 
     cuts_borrowed : (child : ℕ) (by : Option Reached) (variables : Variables S) (go to : Loan S → State S → Ended S) → ((loan : Loan S) → ToCuts limit (go loan) (to loan)) → ((loan : Loan S) → GoCounts limit (to loan)) → ToCuts limit (borrowed r child by variables go) (borrowed longer_rules child by variables to)
     cuts_borrowed child None variables go to k c state = inr refl
@@ -173,32 +172,32 @@ module _ {S : Type 0} (r : Rules S) (limit : ℕ) (larger : r.limit ≤ limit) (
     cuts_all_borrowed [] (more form forms) variables loans go to k c state = k loans state
     cuts_all_borrowed (y ∷ ys) (more form forms) variables loans go to k c state =
         cuts_borrowed y (reached form) variables _ _
-          (λ loan after. cuts_all_borrowed ys forms variables (loans ++ loan ∷ []) go to k c after)
-          (λ loan. counts_all_borrowed longer_rules g ys forms variables (loans ++ loan ∷ []) to c) state
+        (λ loan after. cuts_all_borrowed ys forms variables (loans ++ loan ∷ []) go to k c after)
+        (λ loan. counts_all_borrowed longer_rules g ys forms variables (loans ++ loan ∷ []) to c) state
 
     cuts_put_back : (vars : List ℕ) (loans : List (Loan S)) (go to : State S → Ended S) → ToCuts limit go to → GoCounts limit to → ToCuts limit (put_back r vars loans go) (put_back longer_rules vars loans to)
     unfolding put_back
     cuts_put_back vars [] go to k c state = k state
     cuts_put_back vars (l ∷ ls) go to k c state =
         cuts_if limit (list_any (nat_eq l.child) vars) _ _ _ _
-          (cuts_counting limit r.limit larger state _ _
-            (λ after. cuts_put_back vars ls go to k c (record after { objects = put_into_parent l after.objects }))
-            (λ after. counts_objects limit after _ _ (counts_put_back longer_rules g vars ls to c (record after { objects = put_into_parent l after.objects }))))
-          (cuts_put_back vars ls go to k c state)
+        (cuts_counting limit r.limit larger state _ _
+        (λ after. cuts_put_back vars ls go to k c (record after { objects = put_into_parent l after.objects }))
+        (λ after. counts_objects limit after _ _ (counts_put_back longer_rules g vars ls to c (record after { objects = put_into_parent l after.objects }))))
+        (cuts_put_back vars ls go to k c state)
 
     cuts_producing : (ev eu : Evaluator S) (vars : List ℕ) (producer : Core) (variables : Variables S) (loans : List (Loan S)) → EvCuts ev eu → ToCuts limit (producing r ev vars producer variables loans) (producing longer_rules eu vars producer variables loans)
     cuts_producing ev eu vars producer variables loans h state =
         cuts_returned limit loans _ _
-          (cuts_then limit _ _ _ _ (h producer (loaned_variables r loans variables) (lending r loans state))
-            (λ values after. cuts_put_back vars loans (Gives values) (Gives values) (λ last. refl) (λ last. grown_same limit last) after)
-            (λ values. counts_put_back longer_rules g vars loans (Gives values) (λ last. grown_same limit last)))
+        (cuts_then limit _ _ _ _ (h producer (loaned_variables r loans variables) (lending r loans state))
+        (λ values after. cuts_put_back vars loans (Gives values) (Gives values) (λ last. refl) (λ last. grown_same limit last) after)
+        (λ values. counts_put_back longer_rules g vars loans (Gives values) (λ last. grown_same limit last)))
 
     cuts_with_loans : (ev eu : Evaluator S) (vars : List ℕ) (producer consumer : Core) (variables : Variables S) (loans : List (Loan S)) → EvCuts ev eu → EvCounts eu → ToCuts limit (with_loans r ev vars producer consumer variables loans) (with_loans longer_rules eu vars producer consumer variables loans)
     cuts_with_loans ev eu vars producer consumer variables loans h c state =
         cuts_if limit (are_twins r.kind loans) _ _ _ _ (inr refl)
-          (cuts_then limit _ _ _ _ (cuts_producing ev eu vars producer variables loans h state)
-            (λ values after. h consumer (bound vars values variables) after)
-            (λ values after. c consumer (bound vars values variables) after))
+        (cuts_then limit _ _ _ _ (cuts_producing ev eu vars producer variables loans h state)
+        (λ values after. h consumer (bound vars values variables) after)
+        (λ values after. c consumer (bound vars values variables) after))
 
     cuts_fresh : (ev eu : Evaluator S) (y : ℕ) (l : Option (ObjectList S)) (producer : Core) (variables : Variables S) → EvCuts ev eu → ToCuts limit (with_fresh r ev y l producer variables) (with_fresh longer_rules eu y l producer variables)
     cuts_fresh ev eu y None producer variables h state = refl
@@ -211,23 +210,23 @@ module _ {S : Type 0} (r : Rules S) (limit : ℕ) (larger : r.limit ≤ limit) (
     cuts_opened ev eu h c (Const o) variables state = inr refl
     cuts_opened ev eu h c (If a b d) variables state =
         cuts_then limit _ _ _ _ (h a variables state)
-          (λ test after. h (if is_false r test then d else b) variables after) (λ test after. c (if is_false r test then d else b) variables after)
+        (λ test after. h (if is_false r test then d else b) variables after) (λ test after. c (if is_false r test then d else b) variables after)
     cuts_opened ev eu h c (Let names forms body) variables state =
         cuts_in_order ev eu forms variables [] _ _ h c
-          (λ values after. h body (bound names values variables) after) (λ values after. c body (bound names values variables) after) state
+        (λ values after. h body (bound names values variables) after) (λ values after. c body (bound names values variables) after) state
     cuts_opened ev eu h c (Mv parts) variables state =
         cuts_in_order ev eu parts variables [] _ _ h c (λ values after. refl) (λ values after. grown_same limit after) state
     cuts_opened ev eu h c (MvLet names form body) variables state =
         cuts_then limit _ _ _ _ (h form variables state)
-          (λ values after. h body (bound names values variables) after) (λ values after. c body (bound names values variables) after)
+        (λ values after. h body (bound names values variables) after) (λ values after. c body (bound names values variables) after)
     cuts_opened ev eu h c (StobjLet names forms vars producer consumer) variables state =
         cuts_all_borrowed names forms variables [] _ _
-          (λ loans. cuts_with_loans ev eu vars producer consumer variables loans h c)
-          (λ loans. counts_with_loans longer_rules g eu vars producer consumer variables loans c) state
+        (λ loans. cuts_with_loans ev eu vars producer consumer variables loans h c)
+        (λ loans. counts_with_loans longer_rules g eu vars producer consumer variables loans c) state
     cuts_opened ev eu h c (WithLocal object names producer body) variables state =
         cuts_then limit _ _ _ _
-          (cuts_counting limit r.limit larger state _ _ (cuts_fresh ev eu object (r.fresh object) producer variables h) (counts_fresh longer_rules g eu object (r.fresh object) producer variables c (g.known object)))
-          (λ values after. h body (bound names values variables) after) (λ values after. c body (bound names values variables) after)
+        (cuts_counting limit r.limit larger state _ _ (cuts_fresh ev eu object (r.fresh object) producer variables h) (counts_fresh longer_rules g eu object (r.fresh object) producer variables c (g.known object)))
+        (λ values after. h body (bound names values variables) after) (λ values after. c body (bound names values variables) after)
     cuts_opened ev eu h c (MustBeEqual logic exec) variables state = h logic variables state
     cuts_opened ev eu h c (Call f actuals) variables state =
         cuts_in_order ev eu actuals variables [] _ _ h c (λ values. cuts_called ev eu f values h c) (λ values. counts_called longer_rules g eu f values c) state
@@ -241,4 +240,4 @@ module _ {S : Type 0} (r : Rules S) (limit : ℕ) (larger : r.limit ≤ limit) (
     cuts_evaluated zero form variables state = cuts_leaf (leaf r form variables) state _ _ (inr refl)
     cuts_evaluated (suc d) form variables state =
         cuts_leaf (leaf r form variables) state _ _
-          (cuts_opened (evaluated r d) (evaluated longer_rules d) (cuts_evaluated d) (counts_evaluated longer_rules g d) form variables state)
+        (cuts_opened (evaluated r d) (evaluated longer_rules d) (cuts_evaluated d) (counts_evaluated longer_rules g d) form variables state)

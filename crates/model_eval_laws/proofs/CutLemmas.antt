@@ -1,11 +1,9 @@
 -- The rules of checked evaluation are cut at a limit.
-use Rattle.std.proofs.Common.{◌≡◌, ℕ, ◌+◌, ◌<◌, ◌≤◌, List, Bool, true, false, Option, None, refl, ap, arith, inl, inr}
+use Rattle.std.proofs.Common.{◌≡◌, ℕ, ◌≤◌, List, Bool, true, false, None, refl, ap, arith, inl, inr}
 use Rattle.std.specs.Prelude.{nat_lt, if◌then◌else◌}
-use Rattle.std.proofs.lemmas.Bool.Decides.{nat_tests}
-use Rattle.model_symbols.specs.Symbols.{Package}
-use Rattle.model_terms.specs.Worlds.{World, FunctionOfAbstract}
+use Rattle.model_terms.specs.Worlds.{FunctionOfAbstract}
 use Rattle.model_eval.specs.Outcomes.{Shown, Steps, State, Ended, Gives, Stops, Unknown, one_more_call}
-use Rattle.model_eval.specs.Checked.{checked, checked_rules, checked_export, inside}
+use Rattle.model_eval.specs.Checked.{checked_rules, checked_export, inside}
 use Rattle.model_eval_laws.specs.Counting.{Grown, Counts}
 use Rattle.model_eval_laws.specs.Cutting.{Cuts, IsCut}
 use Rattle.model_eval_laws.proofs.Counts.{GoCounts}
@@ -37,5 +35,5 @@ module _ (limit : ℕ) where
 pub is_cut : IsCut
 is_cut = record {
   cut = λ w packages k l d form variables state h.
-    cuts_evaluated (checked_rules w packages k) l h (checked_export l) (cuts_export l k h) (checked_count w packages l) d form variables state;
+      cuts_evaluated (checked_rules w packages k) l h (checked_export l) (cuts_export l k h) (checked_count w packages l) d form variables state;
 }

@@ -1,7 +1,7 @@
 -- The equations of evaluation.
-use Rattle.std.proofs.Common.{◌≡◌, ℕ, zero, suc, ◌+◌, List, [], ◌∷◌, Option, Some, None, refl, ap, add-one}
+use Rattle.std.proofs.Common.{◌≡◌, ℕ, zero, suc, ◌+◌, [], ◌∷◌, Some, None, ap, add-one}
 use Rattle.model_terms.specs.Cores.{Core}
-use Rattle.model_eval.specs.Outcomes.{Shown, Depth, State, Ended, Gives, Stops}
+use Rattle.model_eval.specs.Outcomes.{Shown, Depth, State, Gives, Stops}
 use Rattle.model_eval.specs.Scopes.{Variables}
 use Rattle.model_eval.specs.Evaluated.{Rules, leaf, leaf_or, opened, evaluated}
 use Rattle.model_eval.specs.Checked.{checked_rules}

@@ -14,7 +14,7 @@ use Rattle.model_lists.specs.Types.{integer_word}
 use Rattle.model_terms.specs.Cores.{Core, Const, If, Call, cores}
 use Rattle.model_terms.specs.Worlds.{World, Definition, Out, Ordinary, Shape, Scalar, Primitive, Defined, Concrete, Generated}
 use Rattle.model_terms.specs.declared.role.Role.{Role}
-use Rattle.model_eval.specs.Outcomes.{Shown, Stobj, Stop, State, Ended, Gives, Stops}
+use Rattle.model_eval.specs.Outcomes.{Shown, Stop, State, Ended, Gives, Stops}
 use Rattle.model_eval.specs.Checked.{checked, begun, live}
 
 -- ---- forms and values

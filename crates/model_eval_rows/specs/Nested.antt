@@ -1,6 +1,6 @@
 -- Evaluations inside evaluations: exports in guards and in exec functions, children of children, guards of guards; and a range
 -- of numbers that is written by halves.
-use Rattle.std.specs.Prelude.{ℕ, zero, suc, ◌+◌, ◌-◌, ◌^◌, List, [], ◌∷◌, ◌++◌, map, replicate, false, Option, Some, None, pos}
+use Rattle.std.specs.Prelude.{ℕ, zero, suc, ◌+◌, ◌-◌, ◌^◌, List, [], ◌∷◌, ◌++◌, replicate, false, Option, Some, None, pos}
 use Rattle.model_objects.specs.Object.{Object, Integer, Symbol, list_onto}
 use Rattle.model_symbols.specs.Opening.{nil, truth}
 use Rattle.model_prims.specs.declared.prim.Prim.TheVariants.{Recognizer, Relation, Arithmetic, Listing}
@@ -9,13 +9,13 @@ use Rattle.model_prims.specs.declared.prim.Relation.TheVariants as relation
 use Rattle.model_prims.specs.declared.prim.Arithmetic.TheVariants as arithmetic
 use Rattle.model_prims.specs.declared.prim.Listing.TheVariants as listing
 use Rattle.model_lists.specs.Lists.{ObjectList, Value}
-use Rattle.model_lists.specs.Types.{integer_word, unsigned_byte_word}
+use Rattle.model_lists.specs.Types.{unsigned_byte_word}
 use Rattle.model_terms.specs.Cores.{Core, Var, Const, If, Let, Mv, StobjLet, WithLocal, cores}
 use Rattle.model_terms.specs.Worlds.{World, Definition, Ordinary, Abstract, OfAbstract}
 use Rattle.model_terms.specs.Worlds as worlds
 use Rattle.model_terms.specs.declared.role.Role.TheVariants as role
 use Rattle.model_terms.specs.declared.role.AbstractRole.TheVariants as abstract_role
-use Rattle.model_eval.specs.Outcomes.{Shown, Plain, Stobj, Stop, Guard, Steps, Range, Large, Ended, Gives, Stops}
+use Rattle.model_eval.specs.Outcomes.{Plain, Stobj, Stop, Guard, Steps, Range, Large, Ended, Gives, Stops}
 use Rattle.model_eval_rows.specs.Books.{Row, number, symbol, int, quoted, call, both_hold, always, items, numbers, primitives, primitive, function, generated, object, integer_field, gives, stops, state, car_word, cons_word, not_word, below_word, plus_word, minus_word, zp_word, natp_word}
 
 abbrev run : World → ℕ → List (ℕ × ObjectList ℕ) → Core → Ended ℕ → Row
@@ -179,8 +179,8 @@ tree n = (top, items (items (items (numbers (0 ∷ []) ∷ numbers (n ∷ []) �
 abbrev write_kid : Core
 write_kid =
     StobjLet (par ∷ []) (cores (call par_of (Var top ∷ []) ∷ [])) (par ∷ [])
-      (StobjLet (kid ∷ []) (cores (call ki (int 1 ∷ Var par ∷ []) ∷ [])) (kid ∷ []) (call update_kid (int 9 ∷ Var kid ∷ [])) (Var par))
-      (Var top)
+    (StobjLet (kid ∷ []) (cores (call ki (int 1 ∷ Var par ∷ []) ∷ [])) (kid ∷ []) (call update_kid (int 9 ∷ Var kid ∷ [])) (Var par))
+    (Var top)
 
 unfoldable pub family_rows : List Row
 family_rows =
@@ -250,8 +250,8 @@ middle = call floor_word (call plus_word (Var lo ∷ Var hi ∷ []) ∷ int 2 �
 abbrev range_guard : Core
 range_guard =
     both_hold (call natp_word (Var lo ∷ []))
-      (both_hold (call natp_word (Var hi ∷ []))
-        (both_hold (call below_word (Var lo ∷ Var hi ∷ [])) (call not_word (call below_word (int 1000000 ∷ Var hi ∷ []) ∷ []))))
+    (both_hold (call natp_word (Var hi ∷ []))
+    (both_hold (call below_word (Var lo ∷ Var hi ∷ [])) (call not_word (call below_word (int 1000000 ∷ Var hi ∷ []) ∷ []))))
 
 -- (if (= (- hi lo) 1)
 --   (let ((st (update-si lo (mod lo 256) st))) (update-sum (+ (sum st) (si lo st)) st))
@@ -259,15 +259,15 @@ range_guard =
 abbrev range_body : Core
 range_body =
     If (call equal_word (less_one (Var hi) (Var lo) ∷ int 1 ∷ []))
-      (Let (st ∷ []) (cores (call update_si (Var lo ∷ call mod_word (Var lo ∷ int 256 ∷ []) ∷ Var st ∷ []) ∷ []))
-        (call update_sum (call plus_word (call sum (Var st ∷ []) ∷ call si (Var lo ∷ Var st ∷ []) ∷ []) ∷ Var st ∷ [])))
-      (Let (st ∷ []) (cores (call put_range (Var lo ∷ middle ∷ Var st ∷ []) ∷ [])) (call put_range (middle ∷ Var hi ∷ Var st ∷ [])))
+    (Let (st ∷ []) (cores (call update_si (Var lo ∷ call mod_word (Var lo ∷ int 256 ∷ []) ∷ Var st ∷ []) ∷ []))
+    (call update_sum (call plus_word (call sum (Var st ∷ []) ∷ call si (Var lo ∷ Var st ∷ []) ∷ []) ∷ Var st ∷ [])))
+    (Let (st ∷ []) (cores (call put_range (Var lo ∷ middle ∷ Var st ∷ []) ∷ [])) (call put_range (middle ∷ Var hi ∷ Var st ∷ [])))
 
 -- (if (zp n) 0 (let ((x (dbl (- n 1)))) (cons x x)))
 abbrev dbl_body : Core
 dbl_body =
     If (call zp_word (Var n ∷ [])) (int 0)
-      (Let (x ∷ []) (cores (call dbl (less_one (Var n) (int 1) ∷ []) ∷ [])) (call cons_word (Var x ∷ Var x ∷ [])))
+    (Let (x ∷ []) (cores (call dbl (less_one (Var n) (int 1) ∷ []) ∷ [])) (call cons_word (Var x ∷ Var x ∷ [])))
 
 abbrev counted : World
 counted =

@@ -1,8 +1,8 @@
 -- A small stack machine: its program is a list of instructions, its object has a counter, a stack, a memory of 16 numbers,
 -- names of places and a program. Instructions are (push n), (load name), (store name) and (add).
-use Rattle.std.specs.Prelude.{ℕ, List, [], ◌∷◌, ◌++◌, map, replicate, false, Option, Some, None}
+use Rattle.std.specs.Prelude.{ℕ, List, [], ◌∷◌, ◌++◌, map, replicate, false, None}
 use Rattle.acl_base.specs.declared.layout.Test.TheVariants.{Eq}
-use Rattle.model_objects.specs.Object.{Object, Symbol, Pair, list_onto}
+use Rattle.model_objects.specs.Object.{Object, Symbol, list_onto}
 use Rattle.model_symbols.specs.Opening.{nil, truth}
 use Rattle.model_prims.specs.declared.prim.Prim.TheVariants.{Recognizer, Relation, Listing}
 use Rattle.model_prims.specs.declared.prim.Recognizer.TheVariants as recognizer
@@ -14,8 +14,8 @@ use Rattle.model_terms.specs.Cores.{Core, Var, Const, If, Let, Mv, MvLet, cores}
 use Rattle.model_terms.specs.Worlds.{World, Definition, Ordinary}
 use Rattle.model_terms.specs.Worlds as worlds
 use Rattle.model_terms.specs.declared.role.Role.TheVariants as role
-use Rattle.model_eval.specs.Outcomes.{Plain, Stobj, Guard, Ended}
-use Rattle.model_eval_rows.specs.Books.{Row, number, symbol, int, quoted, call, both_hold, always, items, numbers, primitives, primitive, function, generated, object, gives, stops, car_word, cons_word, plus_word}
+use Rattle.model_eval.specs.Outcomes.{Stobj, Guard, Ended}
+use Rattle.model_eval_rows.specs.Books.{Row, number, symbol, quoted, call, both_hold, always, items, numbers, primitives, primitive, function, generated, object, gives, stops, car_word, cons_word, plus_word}
 
 -- ---- names
 
@@ -132,7 +132,7 @@ push_body = call update_stk (call cons_word (Var v ∷ on_sm stk ∷ []) ∷ Var
 abbrev pop_body : Core
 pop_body =
     Let (v ∷ []) (cores (car_of (on_sm stk) ∷ []))
-      (Let (sm ∷ []) (cores (call update_stk (cdr_of (on_sm stk) ∷ Var sm ∷ []) ∷ [])) (Mv (cores (Var v ∷ Var sm ∷ []))))
+    (Let (sm ∷ []) (cores (call update_stk (cdr_of (on_sm stk) ∷ Var sm ∷ []) ∷ [])) (Mv (cores (Var v ∷ Var sm ∷ []))))
 
 abbrev argument : Core
 argument = car_of (cdr_of (Var ins))
@@ -152,17 +152,17 @@ popped name body = MvLet (name ∷ sm ∷ []) (on_sm pop_val) body
 abbrev step_body : Core
 step_body =
     Let (hidden ∷ []) (cores (car_of (Var ins) ∷ []))
-      (If (is_case push) (pushed argument)
-      (If (is_case load) (pushed (call memi (place ∷ Var sm ∷ [])))
-      (If (is_case store) (popped v (call update_memi (place ∷ Var v ∷ Var sm ∷ [])))
-      (If (is_case add) (popped a (popped b (pushed (call plus_word (Var a ∷ Var b ∷ [])))))
-      (Var sm)))))
+    (If (is_case push) (pushed argument)
+    (If (is_case load) (pushed (call memi (place ∷ Var sm ∷ [])))
+    (If (is_case store) (popped v (call update_memi (place ∷ Var v ∷ Var sm ∷ [])))
+    (If (is_case add) (popped a (popped b (pushed (call plus_word (Var a ∷ Var b ∷ [])))))
+    (Var sm)))))
 
 -- (if (endp code) sm (let ((sm (step1 (car code) sm))) (run-code (cdr code) sm)))
 abbrev run_body : Core
 run_body =
     If (call endp_word (Var code ∷ [])) (Var sm)
-      (Let (sm ∷ []) (cores (call step1 (car_of (Var code) ∷ Var sm ∷ []) ∷ [])) (call run_code (cdr_of (Var code) ∷ Var sm ∷ [])))
+    (Let (sm ∷ []) (cores (call step1 (car_of (Var code) ∷ Var sm ∷ []) ∷ [])) (call run_code (cdr_of (Var code) ∷ Var sm ∷ [])))
 
 abbrev value_and_sm : List worlds.Out
 value_and_sm = Ordinary ∷ worlds.Stobj sm ∷ []
@@ -183,9 +183,9 @@ book =
     ∷ primitive symbolp_word 1 (Recognizer recognizer.Symbolp)
     ∷ primitive true_listp_word 1 (Recognizer recognizer.TrueListp)
     ∷ object sm
-        (worlds.Scalar (list (Symbol integer_word ∷ number 0 ∷ number 1000 ∷ [])) (number 0) ∷ worlds.Scalar (Symbol truth) (Symbol nil)
-        ∷ worlds.Array signed_32 (number 0) 16 false ∷ worlds.Hash Eq ∷ worlds.Scalar (Symbol truth) (Symbol nil) ∷ [])
-        None sm
+    (worlds.Scalar (list (Symbol integer_word ∷ number 0 ∷ number 1000 ∷ [])) (number 0) ∷ worlds.Scalar (Symbol truth) (Symbol nil)
+    ∷ worlds.Array signed_32 (number 0) 16 false ∷ worlds.Hash Eq ∷ worlds.Scalar (Symbol truth) (Symbol nil) ∷ [])
+    None sm
     ∷ generated stk sm 1 role.Access just_sm (Ordinary ∷ [])
     ∷ generated update_stk sm 1 role.Update value_and_sm just_sm
     ∷ generated memi sm 2 role.Access value_and_sm (Ordinary ∷ [])
@@ -208,7 +208,7 @@ names = (symbol y, number 4) ∷ (symbol x, number 3) ∷ []
 abbrev machine : List ℕ → ℕ → ℕ → ObjectList ℕ
 machine stack third fourth =
     items
-      (Value (number 0) ∷ Value (list (map number stack)) ∷ numbers (0 ∷ 0 ∷ 0 ∷ third ∷ fourth ∷ replicate 11 0) ∷ Pairs names ∷ Value (Symbol nil) ∷ [])
+    (Value (number 0) ∷ Value (list (map number stack)) ∷ numbers (0 ∷ 0 ∷ 0 ∷ third ∷ fourth ∷ replicate 11 0) ∷ Pairs names ∷ Value (Symbol nil) ∷ [])
 
 abbrev instruction : ℕ → List (Object ℕ) → Object ℕ
 instruction op args = list (Symbol op ∷ args)
@@ -226,11 +226,11 @@ runs before program answer = record {
 unfoldable pub machine_rows : List Row
 machine_rows =
     runs (machine [] 0 0)
-      (instruction push (number 20 ∷ []) ∷ instruction push (number 22 ∷ []) ∷ instruction add [] ∷ instruction store (symbol x ∷ []) ∷ [])
-      (gives (Stobj sm ∷ []) ((sm, machine [] 42 0) ∷ []) 95)
+    (instruction push (number 20 ∷ []) ∷ instruction push (number 22 ∷ []) ∷ instruction add [] ∷ instruction store (symbol x ∷ []) ∷ [])
+    (gives (Stobj sm ∷ []) ((sm, machine [] 42 0) ∷ []) 95)
     ∷ runs (machine [] 42 0)
-      (instruction load (symbol x ∷ []) ∷ instruction load (symbol x ∷ []) ∷ instruction add [] ∷ instruction store (symbol y ∷ []) ∷ [])
-      (gives (Stobj sm ∷ []) ((sm, machine [] 42 84) ∷ []) 105)
+    (instruction load (symbol x ∷ []) ∷ instruction load (symbol x ∷ []) ∷ instruction add [] ∷ instruction store (symbol y ∷ []) ∷ [])
+    (gives (Stobj sm ∷ []) ((sm, machine [] 42 84) ∷ []) 105)
     -- the second number that is to be added is missing: the first was taken from the stack
     ∷ runs (machine [] 42 84) (instruction push (number 1 ∷ []) ∷ instruction add [] ∷ []) (stops (Guard pop_val (Stobj sm ∷ [])) ((sm, machine [] 42 84) ∷ []) 39)
     ∷ []

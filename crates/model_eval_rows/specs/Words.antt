@@ -1,6 +1,6 @@
 -- The numbers of the words that rows name.
-use Rattle.std.specs.Prelude.{◌≡◌, ℕ, List, [], ◌∷◌, map, codes}
-use Rattle.model_symbols.specs.Symbols.{QualifiedName, symbol_at}
+use Rattle.std.specs.Prelude.{◌≡◌, ℕ, [], ◌∷◌, map, codes}
+use Rattle.model_symbols.specs.Symbols.{symbol_at}
 use Rattle.model_symbols.specs.Opening.{opening}
 use Rattle.model_eval_rows.specs.Books.{car_word, cons_word, not_word, integerp_word, below_word, plus_word, minus_word, zp_word, natp_word}
 
