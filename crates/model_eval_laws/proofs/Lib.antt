@@ -1,0 +1,12 @@
+pub mod Agree
+pub mod LimitLemmas
+pub mod Counts
+pub mod CountLemmas
+pub mod Lists
+pub mod Frame
+pub mod FrameLemmas
+pub mod BudgetLemmas
+pub mod OpeningLemmas
+pub mod Cut
+pub mod CutLemmas
+pub mod WordLemmas
