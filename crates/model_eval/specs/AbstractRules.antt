@@ -1,0 +1,174 @@
+-- Abstract evaluation: as checked evaluation, but an abstract object is its abstract list, an export gives the values of its
+-- logic function, nothing inside an export is counted, and symbols are named and have no limit. And when lists correspond.
+use Rattle.std.specs.Prelude.{◌≡◌, ℕ, List, [], ◌∷◌, map, true, false, Option, Some, None, ℤ, nat_le, if◌then◌else◌}
+use Rattle.std.specs.Option.{option_map}
+use Rattle.model_objects.specs.Object.{Integer, Symbol, weight, max_weight}
+use Rattle.model_symbols.specs.Symbols.{QualifiedName, Package, symbol_in, form_of}
+use Rattle.model_symbols.specs.Opening.{truth_name}
+use Rattle.model_prims.specs.Kinds.{by_name, is_nil}
+use Rattle.model_prims.specs.Numbers.{in_range, power_in_range, shift_in_range}
+use Rattle.model_prims.specs.Lists.{updated}
+use Rattle.model_prims.specs.Guards.{guard}
+use Rattle.model_prims.specs.Values.{Wanted, Old, Number, Made, Power, Shift, Update, Interned, wanted}
+use Rattle.model_prims.specs.Applied.{argument, package_called}
+use Rattle.model_prims.specs.declared.prim.Prim.{Prim}
+use Rattle.model_lists.specs.Lists.{ObjectList, Value, Pairs, End, Item, as_object}
+use Rattle.model_lists.specs.Layouts.{initial, recognizes}
+use Rattle.model_terms.specs.Worlds.{World, Definition, FunctionOfAbstract, AbstractDescriptor, Out, Ordinary, definition, Primitive, Defined, Macro, Constant, Concrete, Generated, Abstract, OfAbstract, Named, Signed}
+use Rattle.model_terms.specs.Worlds as worlds
+use Rattle.model_eval.specs.Outcomes.{Shown, Plain, Stobj, Objects, Guard, Range, Large, State, Ended, Gives, Stops, Unknown}
+use Rattle.model_eval.specs.Scopes.{ordinary, first_object, list_of, with_list}
+use Rattle.model_eval.specs.Worlds.{object_layout}
+use Rattle.model_eval.specs.Evaluated.{Rules, Evaluator, evaluated}
+use Rattle.model_eval.specs.Logic.{Book, Found, Thing, elements, logic_call, CallEndsWith}
+
+-- ---- primitives
+
+module _ (packages : List Package) (f : ℕ) (state : State QualifiedName) where
+  abbrev pub gives_value : Thing → Ended QualifiedName
+  gives_value o = Gives (Plain o ∷ []) state
+
+  abbrev pub gives_number : Option ℤ → Ended QualifiedName
+  gives_number None = Stops (Range f) None state
+  gives_number (Some n) = gives_value (Integer n)
+
+  abbrev pub gives_weighed : Thing → Ended QualifiedName
+  gives_weighed o = if nat_le (weight o) max_weight then gives_value o else Stops (Large f) None state
+
+  -- the value of a primitive with the bounds of a value
+  unfoldable pub bounded_value : Wanted QualifiedName → Ended QualifiedName
+  bounded_value (Old o) = gives_value o
+  bounded_value (Number n) = gives_number (in_range n)
+  bounded_value (Made o) = gives_weighed o
+  bounded_value (Power b n) = gives_number (power_in_range b n)
+  bounded_value (Shift i c) = gives_number (shift_in_range i c)
+  bounded_value (Update n o l) = if nat_le n max_weight then gives_weighed (updated by_name n o l) else Stops (Large f) None state
+  bounded_value (Interned name s) = gives_value (Symbol (symbol_in (package_called packages s.home) name))
+
+  abbrev pub abstract_applied : Prim → List (Shown QualifiedName) → Thing → Thing → Thing → Ended QualifiedName
+  abstract_applied p values x y z = if guard by_name p x y z then bounded_value (wanted by_name (λ s. s) p x y z) else Stops (Guard f values) None state
+
+abbrev pub abstract_primitive : List Package → ℕ → Prim → List (Shown QualifiedName) → State QualifiedName → Ended QualifiedName
+abstract_primitive packages f p values state =
+    let args = ordinary values in
+    abstract_applied packages f state p values (argument by_name args 0) (argument by_name args 1) (argument by_name args 2)
+
+-- ---- objects and exports
+
+module _ (b : Book) (budget : ℕ) where
+  -- the value of a logic function, where the budget suffices
+  abbrev pub logic_value_of : ℕ → List Thing → Option Thing
+  logic_value_of name args = option_map (λ (f : Found). f.value) (logic_call b budget name args 0)
+
+  -- the list of a new object: that of an abstract one is the value of its logic creator
+  abbrev pub fresh_defined : ℕ → Option Definition → Option (ObjectList QualifiedName)
+  fresh_defined x None = Some End
+  fresh_defined x (Some (Primitive name row)) = Some End
+  fresh_defined x (Some (Defined f)) = Some End
+  fresh_defined x (Some (Macro name formals body)) = Some End
+  fresh_defined x (Some (Constant name value)) = Some End
+  fresh_defined x (Some (Concrete d class)) = Some (initial (object_layout (form_of b.symbols) b.world x))
+  fresh_defined x (Some (Generated g)) = Some End
+  fresh_defined x (Some (Abstract d)) = option_map Value (logic_value_of d.creator.logic [])
+  fresh_defined x (Some (OfAbstract f)) = Some End
+  fresh_defined x (Some (Named name formals)) = Some End
+  fresh_defined x (Some (Signed name formals signature executable)) = Some End
+
+  abbrev pub abstract_fresh : ℕ → Option (ObjectList QualifiedName)
+  abstract_fresh x = fresh_defined x (definition b.world x)
+
+  -- an actual in the logic: of an object its list
+  abbrev pub logic_actual : Objects QualifiedName → Shown QualifiedName → Thing
+  logic_actual objects (Plain o) = o
+  logic_actual objects (Stobj x) = as_object by_name (list_of objects x)
+
+  -- the outputs of a logic function, of which an object is the one that this variable names
+  abbrev pub out_values : Option ℕ → List Out → List Thing → List (Shown QualifiedName)
+  out_values x [] parts = []
+  out_values x (o ∷ os) [] = []
+  out_values x (Ordinary ∷ os) (p ∷ ps) = Plain p ∷ out_values x os ps
+  out_values None (worlds.Stobj y ∷ os) (p ∷ ps) = Plain p ∷ out_values None os ps
+  out_values (Some x) (worlds.Stobj y ∷ os) (p ∷ ps) = Stobj x ∷ out_values (Some x) os ps
+
+  abbrev pub out_objects : Option ℕ → List Out → List Thing → Objects QualifiedName → Objects QualifiedName
+  out_objects x [] parts objects = objects
+  out_objects x (o ∷ os) [] objects = objects
+  out_objects x (Ordinary ∷ os) (p ∷ ps) objects = out_objects x os ps objects
+  out_objects None (worlds.Stobj y ∷ os) (p ∷ ps) objects = out_objects None os ps objects
+  out_objects (Some x) (worlds.Stobj y ∷ os) (p ∷ ps) objects = out_objects (Some x) os ps (with_list x (Value p) objects)
+
+  -- a value as one for each output
+  abbrev pub out_parts : List Out → Thing → List Thing
+  out_parts [] value = []
+  out_parts (o ∷ []) value = value ∷ []
+  out_parts (o ∷ (p ∷ ps)) value = elements (map (λ (q : Out). 0) (o ∷ (p ∷ ps))) 0 value
+
+  abbrev pub abstract_export : FunctionOfAbstract → List (Shown QualifiedName) → State QualifiedName → Option Thing → Ended QualifiedName
+  abstract_export f values state None = Unknown
+  abstract_export f values state (Some v) =
+      let x = first_object values in
+      let outs = f.signature.outs in
+      Gives (out_values x outs (out_parts outs v)) (record state { objects = out_objects x outs (out_parts outs v) state.objects })
+
+  -- the rules of abstract evaluation with a limit of calls
+  abbrev pub abstract_rules : ℕ → Rules QualifiedName
+  abstract_rules limit = record {
+    world = b.world;
+    limit = limit;
+    kind = by_name;
+    see = form_of b.symbols;
+    primitive = abstract_primitive b.packages;
+    fresh = abstract_fresh;
+    export = λ f values exec state. abstract_export f values state (logic_value_of f.logic (map (logic_actual state.objects) values));
+  }
+
+  abbrev pub abstractly : ℕ → ℕ → Evaluator QualifiedName
+  abstractly limit depth = evaluated (abstract_rules limit) depth
+
+-- ---- when lists correspond
+
+-- a list with its symbols by name
+abbrev pub named_list : List QualifiedName → ObjectList ℕ → ObjectList QualifiedName
+named_list symbols (Value o) = Value (form_of symbols o)
+named_list symbols (Pairs ps) = Pairs (map (λ p. (form_of symbols p.0, form_of symbols p.1)) ps)
+named_list symbols End = End
+named_list symbols (Item first rest) = Item (named_list symbols first) (named_list symbols rest)
+
+-- a value other than `NIL`
+abbrev pub CallHolds : Book → ℕ → List Thing → Type 0
+CallHolds b name args = (v : Thing) × CallEndsWith b name args v × (is_nil by_name v ≡ false)
+
+-- the list meets the recognizer of the object
+abbrev pub MeetsRecognizer : Book → ℕ → ObjectList QualifiedName → Type 0
+MeetsRecognizer b object l = recognizes by_name (object_layout (form_of b.symbols) b.world object) (as_object by_name l) ≡ true
+
+-- a foundation's list and an abstract one
+pub record IsAbstracted (b : Book) (d : AbstractDescriptor) (c a : ObjectList QualifiedName) : Type 0 where
+  pub recognized : MeetsRecognizer b d.foundation c
+  pub corresponding : CallHolds b d.corr (as_object by_name c ∷ as_object by_name a ∷ [])
+  pub well_formed : CallEndsWith b d.recognizer.logic (as_object by_name a ∷ []) (Symbol truth_name)
+
+pub record IsConcrete (b : Book) (object : ℕ) (c a : ObjectList QualifiedName) : Type 0 where
+  pub recognized : MeetsRecognizer b object c
+  pub equal : c ≡ a
+
+-- the list of an object in checked evaluation, symbols by name, and that in abstract evaluation
+abbrev pub CorrespondAs : Book → ℕ → Option Definition → ObjectList QualifiedName → ObjectList QualifiedName → Type 0
+CorrespondAs b x None c a = ⊥
+CorrespondAs b x (Some (Primitive name row)) c a = ⊥
+CorrespondAs b x (Some (Defined f)) c a = ⊥
+CorrespondAs b x (Some (Macro name formals body)) c a = ⊥
+CorrespondAs b x (Some (Constant name value)) c a = ⊥
+CorrespondAs b x (Some (Concrete d class)) c a = IsConcrete b x c a
+CorrespondAs b x (Some (Generated g)) c a = ⊥
+CorrespondAs b x (Some (Abstract d)) c a = IsAbstracted b d c a
+CorrespondAs b x (Some (OfAbstract f)) c a = ⊥
+CorrespondAs b x (Some (Named name formals)) c a = ⊥
+CorrespondAs b x (Some (Signed name formals signature executable)) c a = ⊥
+
+-- the lists of the same objects, one after another
+abbrev pub Correspond : Book → Objects ℕ → Objects QualifiedName → Type 0
+Correspond b [] [] = Unit {0}
+Correspond b [] (a ∷ others) = ⊥
+Correspond b (c ∷ cs) [] = ⊥
+Correspond b (c ∷ cs) (a ∷ others) = (c.0 ≡ a.0) × CorrespondAs b c.0 (definition b.world c.0) (named_list b.symbols c.1) a.1 × Correspond b cs others

@@ -1,0 +1,10 @@
+pub mod Outcomes
+pub mod Scopes
+pub mod Worlds
+pub mod Generated
+pub mod Children
+pub mod Evaluated
+pub mod Checked
+pub mod LogicFunctions
+pub mod Logic
+pub mod AbstractRules

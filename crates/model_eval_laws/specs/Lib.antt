@@ -1,0 +1,5 @@
+pub mod Agreement
+pub mod Laws
+pub mod Counting
+pub mod Scope
+pub mod Budgets

@@ -1,0 +1,38 @@
+//! Laws of evaluation.
+#![tactic(auto)]
+
+ghost use Rattle.model_eval_laws.specs.Laws.{AgreesUntilLimit, KeepsOutcomes};
+ghost use Rattle.model_eval_laws.specs.Counting.{CountsCalls};
+ghost use Rattle.model_eval_laws.specs.Budgets.{IsSameAtLargerBudgets};
+ghost use Rattle.model_eval_laws.specs.Scope.{LeavesOthers};
+
+/// A larger limit of calls or of open forms changes nothing, unless the smaller one was met.
+#[tactic(auto, using(crate::proofs::LimitLemmas::agrees_until_limit))]
+pub fn larger_limits_agree()
+    ensures { AgreesUntilLimit }
+{}
+
+/// A world that grows keeps every outcome.
+#[tactic(auto, using(crate::proofs::LimitLemmas::keeps_outcomes))]
+pub fn growing_worlds_keep_outcomes()
+    ensures { KeepsOutcomes }
+{}
+
+/// Calls never fall and never pass the limit; a stop at the limit has counted exactly so many; and where no call is left,
+/// every list is as it was.
+#[tactic(auto, using(crate::proofs::CountLemmas::counts_calls))]
+pub fn calls_are_counted()
+    ensures { CountsCalls }
+{}
+
+/// An evaluation does not depend on the objects that no variable has, and leaves them as they are.
+#[tactic(auto, using(crate::proofs::FrameLemmas::leaves_others))]
+pub fn other_objects_are_left()
+    ensures { LeavesOthers }
+{}
+
+/// The logic value is the same at every larger budget, and is one at most.
+#[tactic(auto, using(crate::proofs::BudgetLemmas::is_same_at_larger_budgets))]
+pub fn larger_budgets_give_the_same()
+    ensures { IsSameAtLargerBudgets }
+{}

@@ -1,0 +1,9 @@
+pub mod Books
+pub mod Counting
+pub mod Fields
+pub mod Several
+pub mod Abstract
+pub mod Types
+pub mod ShownLists
+pub mod Logic
+pub mod Abstractly

@@ -1,0 +1,2 @@
+//! The lists that objects stand for, types, layouts, and what generated functions do. Definitions, and laws about them.
+#![tactic(auto)]

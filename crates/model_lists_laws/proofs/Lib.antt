@@ -1,0 +1,2 @@
+pub mod LogicalLemmas
+pub mod NormalLemmas
