@@ -4,3 +4,7 @@ pub mod TypeTerms
 pub mod Faults
 pub mod Layers
 pub mod Expansion
+pub mod Answers
+pub mod Heads
+pub mod Keys
+pub mod Objects
