@@ -8,3 +8,7 @@ pub mod Answers
 pub mod Heads
 pub mod Keys
 pub mod Objects
+pub mod Entries
+pub mod Declarations
+pub mod Functions
+pub mod Macros
