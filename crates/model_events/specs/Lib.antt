@@ -12,3 +12,6 @@ pub mod Entries
 pub mod Declarations
 pub mod Functions
 pub mod Macros
+pub mod Constants
+pub mod Guards
+pub mod Abstracts
