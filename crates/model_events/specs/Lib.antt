@@ -15,3 +15,5 @@ pub mod Macros
 pub mod Constants
 pub mod Guards
 pub mod Abstracts
+pub mod Obligations
+pub mod Events
