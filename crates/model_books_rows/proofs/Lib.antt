@@ -1,0 +1,3 @@
+pub mod EmptyInput
+pub mod GuardViolation
+pub mod ThreeCommands
