@@ -128,7 +128,7 @@ def law(row):
     name = row["name"]
     return f"""
 /// The row `{name}`.
-#[tactic(auto, using(crate::proofs::{camel(name)}::is_computed))]
+#[tactic(auto, using(crate::proofs::Row{camel(name)}::is_computed))]
 pub fn {name}()
     ensures {{ {camel(name)} }}
 {{}}
@@ -149,8 +149,8 @@ use Rattle.model_books.specs.Output.{{output, lines}}
     for old in (CRATE / "proofs").glob("*.antt"):
         old.unlink()
     for row in rows:
-        (CRATE / "proofs" / f"{camel(row['name'])}.antt").write_text(proof(row))
-    (CRATE / "proofs" / "Lib.antt").write_text("".join(f"pub mod {camel(row['name'])}\n" for row in rows))
+        (CRATE / "proofs" / f"Row{camel(row['name'])}.antt").write_text(proof(row))
+    (CRATE / "proofs" / "Lib.antt").write_text("".join(f"pub mod Row{camel(row['name'])}\n" for row in rows))
     names = ", ".join(camel(row["name"]) for row in rows)
     source = f"""//! Worked books, each computed from the definitions: from the bytes of a book to the bytes of its answers. Written by
 //! tools/rows.py from the files in rows/.
