@@ -1,13 +1,18 @@
 #!/usr/bin/env python3
-"""Writes the sources of crates/model_books_rows from the row files in its folder `rows`.
+"""Writes the sources of the crates of worked books from the row files in their folders `rows`.
 
-A row is NAME.lisp (the input), NAME.out (what is written), NAME.status, and NAME.args where it has words. Each becomes a law:
-the output of these words and these bytes is exactly these bytes, with this status. The folder's LEFT-OUT names the rows that
-are not computed, a name and the reason in each line.
+A row is NAME.lisp (the input), NAME.out (what is written), NAME.status, and NAME.args where it has words. Or it is one file
+NAME.row: lines that begin with `> ` are the input, `words: ` the program's words, `# ` what the row shows, and all others are
+written. Each becomes a law: the output of these words and these bytes is exactly these bytes, with this status. LEFT-OUT
+names the rows that are not computed, a name and the reason in each line. Run `rt fmt` in the crates afterwards.
 """
 import pathlib
 
-CRATE = pathlib.Path(__file__).resolve().parent.parent / "crates" / "model_books_rows"
+CRATES = pathlib.Path(__file__).resolve().parent.parent / "crates"
+BOOKS = {
+    "model_books_rows": "Worked books, each computed from the definitions: from the bytes of a book to the bytes of its answers.",
+    "model_event_rows": "Books of expansion and of events, each computed from the definitions: shapes, refusals in their order, counts.",
+}
 STATUS = {"0": "Done", "1": "Errors", "2": "Words", "3": "Text"}
 
 # the definitions that computing a row opens
@@ -76,12 +81,28 @@ def camel(name):
     return "".join(part.capitalize() for part in name.split("_"))
 
 
-def read_rows():
-    folder = CRATE / "rows"
+def transcript(path):
+    """The row of a file of input and output lines."""
+    words, given, written = [], [], []
+    for line in path.read_bytes().split(b"\n")[:-1]:
+        if line.startswith(b"> "):
+            given.append(line[2:] + b"\n")
+        elif line.startswith(b"words: "):
+            words = line[7:].split()
+        elif not line.startswith(b"# "):
+            written.append(line + b"\n")
+    out = b"".join(written)
+    status = "Text" if b"Text fault: " in out else "Done" if out.endswith(b" 0 errors\n") else "Errors"
+    return {"name": path.stem, "input": b"".join(given), "out": out, "status": status, "words": words}
+
+
+def read_rows(folder):
     left_out = set()
     listing = folder / "LEFT-OUT"
     if listing.exists():
         left_out = {line.split(":")[0] for line in listing.read_text().splitlines() if line}
+    for path in sorted(folder.glob("*.row")):
+        yield transcript(path)
     for path in sorted(folder.glob("*.lisp")):
         if path.stem in left_out:
             continue
@@ -110,13 +131,13 @@ pub record {camel(name)} : Type 0 where
 """
 
 
-def proof(row):
+def proof(crate, row):
     name = row["name"]
     uses = "\n".join(f"use {module}.{{{', '.join(names.split())}}}" for module, names in UNFOLDED.items())
     return f"""-- The row of this name, computed.
 use Rattle.std.specs.Prelude.{{refl}}
 {uses}
-use Rattle.model_books_rows.specs.Rows.{{{camel(name)}}}
+use Rattle.{crate}.specs.Rows.{{{camel(name)}}}
 
 pub is_computed : {camel(name)}
 unfolding {" ".join(UNFOLDED.values())}
@@ -135,8 +156,9 @@ pub fn {name}()
 """
 
 
-def main():
-    rows = list(read_rows())
+def write(crate, about):
+    folder = CRATES / crate
+    rows = list(read_rows(folder / "rows"))
     text = "".join(map(spec, rows))
     statuses = ", ".join(s for s in STATUS.values() if f"status = {s} " in text)
     head = f"""-- Whole books: the program's words, an input, what is written, and the status. Written by tools/rows.py.
@@ -144,21 +166,26 @@ use Rattle.std.specs.Prelude.{{◌≡◌, ℕ, List, [], ◌∷◌, ◌++◌, co
 use Rattle.acl_base.specs.declared.status.Status.TheVariants.{{{statuses}}}
 use Rattle.model_books.specs.Output.{{output, lines}}
 """
-    (CRATE / "specs" / "Rows.antt").write_text(head + text)
-    (CRATE / "specs" / "Lib.antt").write_text("pub mod Rows\n")
-    for old in (CRATE / "proofs").glob("*.antt"):
+    (folder / "specs" / "Rows.antt").write_text(head + text)
+    (folder / "specs" / "Lib.antt").write_text("pub mod Rows\n")
+    for old in (folder / "proofs").glob("*.antt"):
         old.unlink()
     for row in rows:
-        (CRATE / "proofs" / f"Row{camel(row['name'])}.antt").write_text(proof(row))
-    (CRATE / "proofs" / "Lib.antt").write_text("".join(f"pub mod Row{camel(row['name'])}\n" for row in rows))
+        (folder / "proofs" / f"Row{camel(row['name'])}.antt").write_text(proof(crate, row))
+    (folder / "proofs" / "Lib.antt").write_text("".join(f"pub mod Row{camel(row['name'])}\n" for row in rows))
     names = ", ".join(camel(row["name"]) for row in rows)
-    source = f"""//! Worked books, each computed from the definitions: from the bytes of a book to the bytes of its answers. Written by
+    source = f"""//! {about} Written by
 //! tools/rows.py from the files in rows/.
 #![tactic(auto)]
 
-ghost use Rattle.model_books_rows.specs.Rows.{{{names}}};
+ghost use Rattle.{crate}.specs.Rows.{{{names}}};
 """
-    (CRATE / "src" / "lib.rt").write_text(source + "".join(map(law, rows)))
+    (folder / "src" / "lib.rt").write_text(source + "".join(map(law, rows)))
+
+
+def main():
+    for crate, about in BOOKS.items():
+        write(crate, about)
 
 
 if __name__ == "__main__":

@@ -1,0 +1,17 @@
+pub mod RowArithmeticMacros
+pub mod RowBindingForms
+pub mod RowCoreShapes
+pub mod RowCountsAtRefusals
+pub mod RowDeclarations
+pub mod RowDeclaredTypes
+pub mod RowFormals
+pub mod RowFunctionNames
+pub mod RowFunctionShapes
+pub mod RowListMacros
+pub mod RowLogicalMacros
+pub mod RowMacroRefusals
+pub mod RowMacrosStop
+pub mod RowOptionalFormals
+pub mod RowOtherMacros
+pub mod RowRestAndKeys
+pub mod RowTheOfTypes
