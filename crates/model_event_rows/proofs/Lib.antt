@@ -1,5 +1,9 @@
+pub mod RowAbstractOutputs
+pub mod RowAbstractRefusals
 pub mod RowArithmeticMacros
 pub mod RowBindingForms
+pub mod RowCongruence
+pub mod RowConstants
 pub mod RowCoreShapes
 pub mod RowCountsAtRefusals
 pub mod RowDeclarations
@@ -7,11 +11,17 @@ pub mod RowDeclaredTypes
 pub mod RowFormals
 pub mod RowFunctionNames
 pub mod RowFunctionShapes
+pub mod RowHeads
+pub mod RowLimits
 pub mod RowListMacros
 pub mod RowLogicalMacros
 pub mod RowMacroRefusals
 pub mod RowMacrosStop
+pub mod RowObjectFunctions
+pub mod RowObjectRefusals
+pub mod RowObjectShapes
 pub mod RowOptionalFormals
 pub mod RowOtherMacros
+pub mod RowPackages
 pub mod RowRestAndKeys
 pub mod RowTheOfTypes

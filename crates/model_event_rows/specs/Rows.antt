@@ -3,12 +3,32 @@ use Rattle.std.specs.Prelude.{◌≡◌, ℕ, List, [], ◌∷◌, ◌++◌, cod
 use Rattle.acl_base.specs.declared.status.Status.TheVariants.{Errors}
 use Rattle.model_books.specs.Output.{output, lines}
 
+-- abstract outputs
+abbrev pub abstract_outputs_input : List ℕ
+abstract_outputs_input = lines (codes "(defstobj mem$c (a$c :type (array (integer 0 9) (4)) :initially 0))" ∷ codes "(defun mem$ap (x) (true-listp x))" ∷ codes "(defun create-mem$a () '((0 0 0 0)))" ∷ codes "(defun-nx mem$corr (mem$c x) (equal mem$c x))" ∷ codes "(defun put$a (i v x) (declare (xargs :guard (mem$ap x))) (update-nth 0 (update-nth i v (car x)) x))" ∷ codes "(defun-nx swap$a (i x) (mv (nth i (car x)) x))" ∷ codes "(defun swap$c (i mem$c) (declare (xargs :stobjs mem$c :guard (and (natp i) (< i (a$c-length mem$c))))) (mv (a$ci i mem$c) mem$c))" ∷ codes "(defabsstobj mem :exports ((put :exec update-a$ci) swap))" ∷ codes "(put 1 5 mem)" ∷ codes "(swap 1 mem)" ∷ codes "(put 4 5 mem)" ∷ codes "(swap 4 mem)" ∷ codes "(:show mem)" ∷ codes "(:show mem$c)" ∷ [])
+
+abbrev pub abstract_outputs_written : List ℕ
+abstract_outputs_written = lines (codes "MEM$C" ∷ codes "MEM$AP" ∷ codes "CREATE-MEM$A" ∷ codes "MEM$CORR" ∷ codes "PUT$A" ∷ codes "SWAP$A" ∷ codes "SWAP$C" ∷ codes "MEM" ∷ codes "CREATE-MEM{CORRESPONDENCE}: (MEM$CORR (CREATE-MEM$C) (CREATE-MEM$A))" ∷ codes "CREATE-MEM{PRESERVED}: (MEM$AP (CREATE-MEM$A))" ∷ codes "PUT{CORRESPONDENCE}: (IMPLIES (AND (MEM$CORR MEM$C MEM) (MEM$AP MEM)) (MEM$CORR (UPDATE-A$CI I V MEM$C) (PUT$A I V MEM)))" ∷ codes "PUT{GUARD-THM}: (IMPLIES (AND (MEM$CORR MEM$C MEM) (MEM$AP MEM)) (IF (IF (INTEGERP I) (IF (NOT (< I (QUOTE 0))) (< I (A$C-LENGTH MEM$C)) (QUOTE NIL)) (QUOTE NIL)) (IF (INTEGERP V) (IF (NOT (< V (QUOTE 0))) (NOT (< (QUOTE 9) V)) (QUOTE NIL)) (QUOTE NIL)) (QUOTE NIL)))" ∷ codes "PUT{PRESERVED}: (IMPLIES (AND (MEM$AP MEM) (MEM$AP MEM)) (MEM$AP (PUT$A I V MEM)))" ∷ codes "SWAP{CORRESPONDENCE}: (IMPLIES (MEM$CORR MEM$C MEM) (AND (EQUAL (NTH (QUOTE 0) (SWAP$A I MEM)) (NTH (QUOTE 0) (SWAP$C I MEM$C))) (MEM$CORR (NTH (QUOTE 1) (SWAP$C I MEM$C)) (NTH (QUOTE 1) (SWAP$A I MEM)))))" ∷ codes "SWAP{GUARD-THM}: (IMPLIES (MEM$CORR MEM$C MEM) (IF (NATP I) (< I (A$C-LENGTH MEM$C)) (QUOTE NIL)))" ∷ codes "SWAP{PRESERVED}: (IMPLIES (MEM$AP MEM) (MEM$AP (NTH (QUOTE 1) (SWAP$A I MEM))))" ∷ codes "<mem>" ∷ codes "(5 <mem>)" ∷ codes "Guard violation: (UPDATE-A$CI 4 5 <mem>) inside PUT" ∷ codes "Guard violation: (SWAP$C 4 <mem>) inside SWAP" ∷ codes "((0 5 0 0))" ∷ codes "((0 0 0 0))" ∷ codes "; 14 commands, 18 calls, 2 errors" ∷ [])
+
+pub record AbstractOutputs : Type 0 where
+  pub is_written : output ([]) abstract_outputs_input ≡ record { bytes = abstract_outputs_written; status = Errors }
+
+-- abstract refusals
+abbrev pub abstract_refusals_input : List ℕ
+abstract_refusals_input = lines (codes "(defstobj st$c (val$c :type integer :initially 0))" ∷ codes "(defun st$ap (x) (true-listp x))" ∷ codes "(defun create-st$a () '(0))" ∷ codes "(defun val$a (x) (declare (xargs :guard (st$ap x))) (car x))" ∷ codes "(defun update-val$a (v x) (declare (xargs :guard (and (integerp v) (st$ap x)))) (update-nth 0 v x))" ∷ codes "(defun-nx st$corr (st$c x) (equal st$c x))" ∷ codes "(defun odd$a (x) (declare (xargs :guard (consp x))) x)" ∷ codes "(defun-nx named$a (st$c x) (declare (xargs :guard (st$ap x))) (update-nth 0 st$c x))" ∷ codes "(defabsstobj)" ∷ codes "(defabsstobj st :foo 1)" ∷ codes "(defabsstobj st :foundation st$c :concrete st$c)" ∷ codes "(defabsstobj st :recognizer (stp :foo 1))" ∷ codes "(defabsstobj st :corr-fn 5)" ∷ codes "(defabsstobj st :exports 5)" ∷ codes "(defabsstobj st :exports ((val :logic 5)))" ∷ codes "(defabsstobj 5)" ∷ codes "(defabsstobj st :exports (5) :creator car)" ∷ codes "(defabsstobj st :exports (val 5))" ∷ codes "(defabsstobj st :exports (val val))" ∷ codes "(defabsstobj st :exports (val$a))" ∷ codes "(defabsstobj st :foundation nope :exports (none))" ∷ codes "(defabsstobj s2)" ∷ codes "(defabsstobj st :corr-fn nope :exports (none))" ∷ codes "(defabsstobj st :exports (none))" ∷ codes "(defabsstobj st :exports ((none :logic val$a)))" ∷ codes "(defabsstobj st :recognizer (stp :logic update-val$a))" ∷ codes "(defabsstobj st :creator (create-st :exec st$cp))" ∷ codes "(defabsstobj st :corr-fn st$ap)" ∷ codes "(defabsstobj st :exports ((val :logic update-val$a)))" ∷ codes "(defabsstobj st :exports ((val :logic car)))" ∷ codes "(defabsstobj st :exports ((update-val :logic named$a)))" ∷ codes "(defabsstobj st :exports ((odd :exec val$c)))" ∷ codes "(defabsstobj st)" ∷ codes "(stp st)" ∷ codes "(:show st)" ∷ codes "(create-st)" ∷ codes "(defstobj par (k :type st))" ∷ [])
+
+abbrev pub abstract_refusals_written : List ℕ
+abstract_refusals_written = lines (codes "ST$C" ∷ codes "ST$AP" ∷ codes "CREATE-ST$A" ∷ codes "VAL$A" ∷ codes "UPDATE-VAL$A" ∷ codes "ST$CORR" ∷ codes "ODD$A" ∷ codes "NAMED$A" ∷ codes "Refused: BadShape DEFABSSTOBJ" ∷ codes "Refused: BadShape DEFABSSTOBJ" ∷ codes "Refused: BadShape DEFABSSTOBJ" ∷ codes "Refused: BadShape DEFABSSTOBJ" ∷ codes "Refused: BadShape DEFABSSTOBJ" ∷ codes "Refused: BadShape DEFABSSTOBJ" ∷ codes "Refused: BadShape DEFABSSTOBJ" ∷ codes "Refused: BadName 5" ∷ codes "Refused: BadName CAR" ∷ codes "Refused: BadName 5" ∷ codes "Refused: NameInUse VAL" ∷ codes "Refused: NameInUse VAL$A" ∷ codes "Refused: FoundationNotConcrete NOPE" ∷ codes "Refused: FoundationNotConcrete S2$C" ∷ codes "Refused: MissingFunction NOPE" ∷ codes "Refused: MissingFunction NONE$A" ∷ codes "Refused: MissingFunction NONE$C" ∷ codes "Refused: SignatureMismatch STP" ∷ codes "Refused: SignatureMismatch CREATE-ST" ∷ codes "Refused: SignatureMismatch ST$AP" ∷ codes "Refused: SignatureMismatch VAL" ∷ codes "Refused: SignatureMismatch VAL" ∷ codes "Refused: SignatureMismatch UPDATE-VAL" ∷ codes "Refused: GuardNotExecutable ODD S3 at (0)" ∷ codes "ST" ∷ codes "CREATE-ST{CORRESPONDENCE}: (ST$CORR (CREATE-ST$C) (CREATE-ST$A))" ∷ codes "CREATE-ST{PRESERVED}: (ST$AP (CREATE-ST$A))" ∷ codes "T" ∷ codes "(0)" ∷ codes "Refused: S12 at ()" ∷ codes "Refused: BadType K" ∷ codes "; 37 commands, 2 calls, 26 errors" ∷ [])
+
+pub record AbstractRefusals : Type 0 where
+  pub is_written : output ([]) abstract_refusals_input ≡ record { bytes = abstract_refusals_written; status = Errors }
+
 -- arithmetic macros
 abbrev pub arithmetic_macros_input : List ℕ
 arithmetic_macros_input = lines (codes "(+)" ∷ codes "(+ 5)" ∷ codes "(+ 1 2 3)" ∷ codes "(*)" ∷ codes "(* 2 3 4)" ∷ codes "(- 5)" ∷ codes "(- 5 3)" ∷ codes "(-)" ∷ codes "(- 1 2 3)" ∷ codes "(1+ 5)" ∷ codes "(1- 5)" ∷ codes "(1+ 1 2)" ∷ codes "(> 1 2)" ∷ codes "(<= 1 2)" ∷ codes "(>= 2 3)" ∷ codes "(> 1)" ∷ codes "(logand)" ∷ codes "(logior)" ∷ codes "(logxor 5 1)" ∷ codes "(logand 12 10 9)" ∷ [])
 
 abbrev pub arithmetic_macros_written : List ℕ
-arithmetic_macros_written = lines (codes "0" ∷ codes "5" ∷ codes "6" ∷ codes "1" ∷ codes "24" ∷ codes "-5" ∷ codes "2" ∷ codes "Refused: BadShape -" ∷ codes "Refused: BadShape -" ∷ codes "6" ∷ codes "4" ∷ codes "Refused: BadShape 1+" ∷ codes "NIL" ∷ codes "T" ∷ codes "NIL" ∷ codes "Refused: BadShape >" ∷ codes "-1" ∷ codes "0" ∷ codes "4" ∷ codes "8" ∷ codes "; 20 commands, 36 calls, 4 errors" ∷ [])
+arithmetic_macros_written = lines (codes "0" ∷ codes "5" ∷ codes "6" ∷ codes "1" ∷ codes "24" ∷ codes "-5" ∷ codes "2" ∷ codes "Refused: BadShape -" ∷ codes "Refused: BadShape -" ∷ codes "6" ∷ codes "4" ∷ codes "Refused: BadShape 1+" ∷ codes "NIL" ∷ codes "T" ∷ codes "NIL" ∷ codes "Refused: BadShape >" ∷ codes "-1" ∷ codes "0" ∷ codes "4" ∷ codes "8" ∷ codes "; 20 commands, 37 calls, 4 errors" ∷ [])
 
 pub record ArithmeticMacros : Type 0 where
   pub is_written : output ([]) arithmetic_macros_input ≡ record { bytes = arithmetic_macros_written; status = Errors }
@@ -18,10 +38,30 @@ abbrev pub binding_forms_input : List ℕ
 binding_forms_input = lines (codes "(let ((x 1) (y 2)) (cons y x))" ∷ codes "(let () 5)" ∷ codes "(let ((x 1)) (declare (ignore x)) (declare . 5) 7)" ∷ codes "(let ((x 1)) (declare))" ∷ codes "(let ((x 1) (x 2)) x)" ∷ codes "(let ((5 1)) 1)" ∷ codes "(let ((x)) 1)" ∷ codes "(let ((nil 1)) 1)" ∷ codes "(let ((:k 1)) 1)" ∷ codes "(let ((*x* 1)) 1)" ∷ codes "(let ((&x 1)) 1)" ∷ codes "(let x 1)" ∷ codes "(let ((x 1)))" ∷ codes "(let ((x 1)) 2 3)" ∷ codes "(let* ((x 1) (x (cons x x))) x)" ∷ codes "(let* () 5)" ∷ codes "(let* ((x 1)) 2 3)" ∷ codes "(let* ((x 1) . 5) 2)" ∷ codes "(mv-let (a b) (mv 1 2) (cons a b))" ∷ codes "(mv 1 2)" ∷ codes "(mv 1)" ∷ codes "(mv-let (a) (mv 1 2) a)" ∷ codes "(mv-let (a a) (mv 1 2) a)" ∷ codes "(mv-let (a b) 5 a)" ∷ codes "(let ((x 1)) (let ((y x) (x 2)) (cons x y)))" ∷ [])
 
 abbrev pub binding_forms_written : List ℕ
-binding_forms_written = lines (codes "(2 . 1)" ∷ codes "5" ∷ codes "7" ∷ codes "Refused: UnknownFunction DECLARE" ∷ codes "Refused: BadShape LET" ∷ codes "Refused: BadShape LET" ∷ codes "Refused: BadShape LET" ∷ codes "Refused: BadShape LET" ∷ codes "Refused: BadShape LET" ∷ codes "Refused: BadShape LET" ∷ codes "Refused: BadShape LET" ∷ codes "Refused: BadShape LET" ∷ codes "Refused: BadShape LET" ∷ codes "Refused: BadShape LET" ∷ codes "(1 . 1)" ∷ codes "5" ∷ codes "Refused: BadShape LET*" ∷ codes "Refused: BadShape LET*" ∷ codes "(1 . 2)" ∷ codes "(1 2)" ∷ codes "Refused: BadShape MV" ∷ codes "Refused: BadShape MV-LET" ∷ codes "Refused: BadShape MV-LET" ∷ codes "Refused: S9 at ()" ∷ codes "(2 . 1)" ∷ codes "; 25 commands, 7 calls, 16 errors" ∷ [])
+binding_forms_written = lines (codes "(2 . 1)" ∷ codes "5" ∷ codes "7" ∷ codes "Refused: UnknownFunction DECLARE" ∷ codes "Refused: BadShape LET" ∷ codes "Refused: BadShape LET" ∷ codes "Refused: BadShape LET" ∷ codes "Refused: BadShape LET" ∷ codes "Refused: BadShape LET" ∷ codes "Refused: BadShape LET" ∷ codes "Refused: BadShape LET" ∷ codes "Refused: BadShape LET" ∷ codes "Refused: BadShape LET" ∷ codes "Refused: BadShape LET" ∷ codes "(1 . 1)" ∷ codes "5" ∷ codes "Refused: BadShape LET*" ∷ codes "Refused: BadShape LET*" ∷ codes "(1 . 2)" ∷ codes "(1 2)" ∷ codes "Refused: BadShape MV" ∷ codes "Refused: BadShape MV-LET" ∷ codes "Refused: BadShape MV-LET" ∷ codes "Refused: S9 at ()" ∷ codes "(2 . 1)" ∷ codes "; 25 commands, 8 calls, 17 errors" ∷ [])
 
 pub record BindingForms : Type 0 where
   pub is_written : output ([]) binding_forms_input ≡ record { bytes = binding_forms_written; status = Errors }
+
+-- congruence
+abbrev pub congruence_input : List ℕ
+congruence_input = lines (codes "(defstobj c1 (ca :type integer :initially 1) (cb))" ∷ codes "(defstobj c2 (da :type integer :initially 1) (db) :congruent-to c1)" ∷ codes "(defstobj c3 (ea :type integer :initially 2) (eb) :congruent-to c1)" ∷ codes "(defstobj c3 (ea :type (integer * *) :initially 1) (eb) :congruent-to c1)" ∷ codes "(defstobj c3 (ea :type integer :initially 1) :congruent-to c1)" ∷ codes "(defstobj c3 (ea :type integer :initially 1) (eb) (ec) :congruent-to c1)" ∷ codes "(defstobj c1 (ea) :congruent-to c2)" ∷ codes "(defstobj c4 (fa :type integer :initially 1) (fb) :congruent-to c2)" ∷ codes "(update-ca 5 c4)" ∷ codes "(defstobj par (k :type c1))" ∷ codes "(defstobj par2 (k2 :type c2) :congruent-to par)" ∷ codes "(defstobj par2 (k2 :type c1) :congruent-to par)" ∷ codes "(defstobj par3 (k3 :type c1 :initially 5))" ∷ codes "(defstobj par3 (k3 :type (array c1 (65537))))" ∷ codes "(defstobj par3 (k3 :type (array c1 (2)) :resizable t))" ∷ codes "(defstobj par3 (k3 :type (array c4 (2))))" ∷ codes "(:show par3)" ∷ codes "(k-length par3)" ∷ codes "(k3-length par3)" ∷ codes "(k par)" ∷ [])
+
+abbrev pub congruence_written : List ℕ
+congruence_written = lines (codes "C1" ∷ codes "C2" ∷ codes "Refused: CongruenceMismatch 0" ∷ codes "Refused: CongruenceMismatch 0" ∷ codes "Refused: CongruenceMismatch 1" ∷ codes "Refused: CongruenceMismatch 2" ∷ codes "Refused: NameInUse C1" ∷ codes "C4" ∷ codes "<c4>" ∷ codes "PAR" ∷ codes "Refused: CongruenceMismatch 0" ∷ codes "PAR2" ∷ codes "Refused: BadInitial K3" ∷ codes "Refused: BadType K3" ∷ codes "Refused: BadType K3" ∷ codes "PAR3" ∷ codes "(((1 NIL) (1 NIL)))" ∷ codes "Refused: UnknownFunction K-LENGTH" ∷ codes "2" ∷ codes "Refused: S12 at ()" ∷ codes "; 20 commands, 2 calls, 11 errors" ∷ [])
+
+pub record Congruence : Type 0 where
+  pub is_written : output ([]) congruence_input ≡ record { bytes = congruence_written; status = Errors }
+
+-- constants
+abbrev pub constants_input : List ℕ
+constants_input = lines (codes "(defconst *c* 5)" ∷ codes "*c*" ∷ codes "(defconst *c* 6)" ∷ codes "(defconst c 5)" ∷ codes "(defconst 5 5)" ∷ codes "(defconst ** 1)" ∷ codes "(defconst *d*)" ∷ codes "(defconst *d* 1 2)" ∷ codes "(defconst *d* 1 \"text\" \"more\")" ∷ codes "(defconst *d* 1 \"text\")" ∷ codes "(defconst *e* (car 5))" ∷ codes "(defconst *e* x)" ∷ codes "(defconst *e* (foo))" ∷ codes "(defconst *e* (mv 1 2))" ∷ codes "(defconst :*a* '(b c))" ∷ codes "(defconst *e* (+ *c* 1))" ∷ codes "*e*" ∷ codes "(defun f (x) (cons x *e*))" ∷ codes "(f *d*)" ∷ codes "(let ((*c* 1)) *c*)" ∷ codes "*unknown*" ∷ codes "(car *common-lisp-symbols-from-main-lisp-package*)" ∷ codes "(car *acl2-exports*)" ∷ [])
+
+abbrev pub constants_written : List ℕ
+constants_written = lines (codes "*C*" ∷ codes "5" ∷ codes "Refused: NameInUse *C*" ∷ codes "Refused: BadName C" ∷ codes "Refused: BadName 5" ∷ codes "Refused: BadName **" ∷ codes "Refused: BadShape DEFCONST" ∷ codes "Refused: BadShape DEFCONST" ∷ codes "Refused: BadShape DEFCONST" ∷ codes "*D*" ∷ codes "Guard violation: (CAR 5)" ∷ codes "Refused: S11 at ()" ∷ codes "Refused: UnknownFunction FOO" ∷ codes "Refused: S9 at ()" ∷ codes ":*A*" ∷ codes "*E*" ∷ codes "6" ∷ codes "F" ∷ codes "(1 . 6)" ∷ codes "Refused: BadShape LET" ∷ codes "Refused: S11 at ()" ∷ codes "T" ∷ codes "MV" ∷ codes "; 23 commands, 7 calls, 13 errors" ∷ [])
+
+pub record Constants : Type 0 where
+  pub is_written : output ([]) constants_input ≡ record { bytes = constants_written; status = Errors }
 
 -- core shapes
 abbrev pub core_shapes_input : List ℕ
@@ -93,12 +133,32 @@ function_shapes_written = lines (codes "Refused: BadShape DEFUN" ∷ codes "Refu
 pub record FunctionShapes : Type 0 where
   pub is_written : output ([]) function_shapes_input ≡ record { bytes = function_shapes_written; status = Errors }
 
+-- heads
+abbrev pub heads_input : List ℕ
+heads_input = lines (codes "(:show)" ∷ codes "(:show nope)" ∷ codes "(:show . 5)" ∷ codes "(:show 5)" ∷ codes "(:cells 1)" ∷ codes "(:cells)" ∷ codes "(:foo)" ∷ codes "(:foo . 5)" ∷ codes "(defthm . 5)" ∷ codes "(local (defun f))" ∷ codes "(set-bogus-mutual-recursion-ok t)" ∷ codes "(logic)" ∷ codes "(progn)" ∷ codes "(include-book . \"x\")" ∷ codes "(cw \"x\")" ∷ codes "(er)" ∷ codes "(car (cw \"x\"))" ∷ codes "(if (defun f (x) x) 1 2)" ∷ codes "(xargs 5)" ∷ [])
+
+abbrev pub heads_written : List ℕ
+heads_written = lines (codes "Refused: BadShape :SHOW" ∷ codes "Refused: BadShape :SHOW" ∷ codes "Refused: BadShape :SHOW" ∷ codes "Refused: BadShape :SHOW" ∷ codes "Refused: BadShape :CELLS" ∷ codes "0" ∷ codes "Refused: NotSupported :FOO" ∷ codes "Refused: NotSupported :FOO" ∷ codes "Skipped" ∷ codes "Skipped" ∷ codes "Skipped" ∷ codes "Skipped" ∷ codes "Refused: NotSupported PROGN" ∷ codes "Refused: NotSupported INCLUDE-BOOK" ∷ codes "Refused: NotSupported CW" ∷ codes "Refused: NotSupported ER" ∷ codes "Refused: UnknownFunction CW" ∷ codes "Refused: UnknownFunction DEFUN" ∷ codes "Refused: UnknownFunction XARGS" ∷ codes "; 19 commands, 0 calls, 14 errors" ∷ [])
+
+pub record Heads : Type 0 where
+  pub is_written : output ([]) heads_input ≡ record { bytes = heads_written; status = Errors }
+
+-- limits
+abbrev pub limits_input : List ℕ
+limits_input = lines (codes "(car (cdr '(1 2)))" ∷ codes "(car (cdr (cdr '(1 2 3))))" ∷ codes "(car (cdr (cdr (cdr '(1 2 3 4)))))" ∷ codes "(cons 1 (car (cdr (cdr '(1 2 3)))))" ∷ codes "(if (car '(nil)) 1 (cons 1 2))" ∷ codes "(defun f (x) (cons x x))" ∷ codes "(cons 1 (f 2))" ∷ codes "(cons 1 (cons 1 (f 2)))" ∷ codes "(defmacro m (x) (car (cdr (cdr x))))" ∷ codes "(list 1 (m (1 2 3)))" ∷ [])
+
+abbrev pub limits_written : List ℕ
+limits_written = lines (codes "2" ∷ codes "3" ∷ codes "Nesting limit" ∷ codes "Nesting limit" ∷ codes "(1 . 2)" ∷ codes "F" ∷ codes "(1 2 . 2)" ∷ codes "Nesting limit" ∷ codes "M" ∷ codes "(1 3)" ∷ codes "; 10 commands, 18 calls, 3 errors" ∷ [])
+
+pub record Limits : Type 0 where
+  pub is_written : output (codes "--depth" ∷ codes "3" ∷ codes "--pure" ∷ []) limits_input ≡ record { bytes = limits_written; status = Errors }
+
 -- list macros
 abbrev pub list_macros_input : List ℕ
 list_macros_input = lines (codes "(list)" ∷ codes "(list 1 2)" ∷ codes "(list* 1 2)" ∷ codes "(list* 1)" ∷ codes "(list*)" ∷ codes "(append)" ∷ codes "(append '(1))" ∷ codes "(append '(1) '(2) 3)" ∷ codes "(member 2 '(1 2 3))" ∷ codes "(member-eq 'b '(a b))" ∷ codes "(member 1)" ∷ codes "(assoc 'a '((a . 1)))" ∷ codes "(assoc-eq 'a '((b . 1)))" ∷ codes "(union-eq '(a) '(a b))" ∷ codes "(caddr '(1 2 3))" ∷ codes "(cadar '((1 2)))" ∷ codes "(cddddr '(1 2 3 4 5))" ∷ codes "(cdaar '((1 2)))" ∷ codes "(first '(1))" ∷ codes "(fifth '(1 2 3 4 5))" ∷ codes "(rest '(1 2))" ∷ codes "(cadr)" ∷ [])
 
 abbrev pub list_macros_written : List ℕ
-list_macros_written = lines (codes "NIL" ∷ codes "(1 2)" ∷ codes "(1 . 2)" ∷ codes "1" ∷ codes "Refused: BadShape LIST*" ∷ codes "NIL" ∷ codes "(1)" ∷ codes "(1 2 . 3)" ∷ codes "(2 3)" ∷ codes "(B)" ∷ codes "Refused: BadShape MEMBER" ∷ codes "(A . 1)" ∷ codes "NIL" ∷ codes "(A B)" ∷ codes "3" ∷ codes "2" ∷ codes "(5)" ∷ codes "Guard violation: (CDR 1)" ∷ codes "1" ∷ codes "5" ∷ codes "(2)" ∷ codes "Refused: BadShape CADR" ∷ codes "; 22 commands, 53 calls, 4 errors" ∷ [])
+list_macros_written = lines (codes "NIL" ∷ codes "(1 2)" ∷ codes "(1 . 2)" ∷ codes "1" ∷ codes "Refused: BadShape LIST*" ∷ codes "NIL" ∷ codes "(1)" ∷ codes "(1 2 . 3)" ∷ codes "(2 3)" ∷ codes "(B)" ∷ codes "Refused: BadShape MEMBER" ∷ codes "(A . 1)" ∷ codes "NIL" ∷ codes "(A B)" ∷ codes "3" ∷ codes "2" ∷ codes "(5)" ∷ codes "Guard violation: (CDR 1)" ∷ codes "1" ∷ codes "5" ∷ codes "(2)" ∷ codes "Refused: BadShape CADR" ∷ codes "; 22 commands, 52 calls, 4 errors" ∷ [])
 
 pub record ListMacros : Type 0 where
   pub is_written : output ([]) list_macros_input ≡ record { bytes = list_macros_written; status = Errors }
@@ -128,10 +188,40 @@ abbrev pub macros_stop_input : List ℕ
 macros_stop_input = lines (codes "(defmacro bad (x) (car x))" ∷ codes "(bad 5)" ∷ codes "(defmacro loop (x) `(loop ,x))" ∷ codes "(loop 1)" ∷ codes "(and (and (and 1 2) 3) 4)" ∷ codes "(and (and (and (and 1 2) 3) 4) 5)" ∷ codes "(and (and (car '(1)) 2) 3)" ∷ codes "(and (and (and (car '(1)) 2) 3) 4)" ∷ [])
 
 abbrev pub macros_stop_written : List ℕ
-macros_stop_written = lines (codes "BAD" ∷ codes "Refused: MacroStopped: Guard violation: (CAR 5)" ∷ codes "LOOP" ∷ codes "Refused: MacroStopped: Step limit" ∷ codes "4" ∷ codes "Refused: MacroStopped: Step limit" ∷ codes "3" ∷ codes "Step limit" ∷ codes "; 8 commands, 20 calls, 4 errors" ∷ [])
+macros_stop_written = lines (codes "BAD" ∷ codes "Refused: MacroStopped: Guard violation: (CAR 5)" ∷ codes "LOOP" ∷ codes "Refused: MacroStopped: Step limit" ∷ codes "4" ∷ codes "Refused: MacroStopped: Step limit" ∷ codes "3" ∷ codes "Step limit" ∷ codes "; 8 commands, 17 calls, 4 errors" ∷ [])
 
 pub record MacrosStop : Type 0 where
   pub is_written : output (codes "--steps" ∷ codes "3" ∷ []) macros_stop_input ≡ record { bytes = macros_stop_written; status = Errors }
+
+-- object functions
+abbrev pub object_functions_input : List ℕ
+object_functions_input = lines (codes "(defconst *n* 3)" ∷ codes "(defstobj st (a :type (array (integer 0 9) (*n*)) :initially 1 :resizable t) (h :type (hash-table eql)) (s))" ∷ codes "(a-length st)" ∷ codes "(resize-a 16777217 st)" ∷ codes "(resize-a -1 st)" ∷ codes "(ai 3 st)" ∷ codes "(update-ai 2 10 st)" ∷ codes "(update-ai 2 9 st)" ∷ codes "(h-put \"k\" 1 st)" ∷ codes "(h-put 'k 1 st)" ∷ codes "(h-put 'k 2 st)" ∷ codes "(h-get? 'k st)" ∷ codes "(h-get? 'l st)" ∷ codes "(h-boundp 'k st)" ∷ codes "(h-count st)" ∷ codes "(h-rem 'k st)" ∷ codes "(h-put 7 '(a b) st)" ∷ codes "(stp st)" ∷ codes "(ap '(1 2))" ∷ codes "(ap '(1 10))" ∷ codes "(hp 5)" ∷ codes "(create-st)" ∷ codes "(update-s (create-st) st)" ∷ codes "(:show st)" ∷ codes "(h-clear st)" ∷ codes "(:show st)" ∷ codes "(defstobj fixed (f :type (array t (2))))" ∷ codes "(resize-f 2 fixed)" ∷ codes "(defstobj s3 (q) :renaming ((q getq) (update-q setq) (qp q-okp) (other none)))" ∷ codes "(getq s3)" ∷ codes "(setq 5 s3)" ∷ codes "(getq st)" ∷ codes "(q s3)" ∷ codes "(:show s3)" ∷ [])
+
+abbrev pub object_functions_written : List ℕ
+object_functions_written = lines (codes "*N*" ∷ codes "ST" ∷ codes "3" ∷ codes "Guard violation: (RESIZE-A 16777217 <st>)" ∷ codes "Guard violation: (RESIZE-A -1 <st>)" ∷ codes "Guard violation: (AI 3 <st>)" ∷ codes "Guard violation: (UPDATE-AI 2 10 <st>)" ∷ codes "<st>" ∷ codes "Guard violation: (H-PUT \"k\" 1 <st>)" ∷ codes "<st>" ∷ codes "<st>" ∷ codes "(2 T)" ∷ codes "(NIL NIL)" ∷ codes "T" ∷ codes "1" ∷ codes "<st>" ∷ codes "<st>" ∷ codes "T" ∷ codes "T" ∷ codes "NIL" ∷ codes "T" ∷ codes "Refused: S12 at ()" ∷ codes "Refused: S8 at (0)" ∷ codes "((1 1 9) ((7 A B)) NIL)" ∷ codes "<st>" ∷ codes "((1 1 9) NIL NIL)" ∷ codes "FIXED" ∷ codes "Guard violation: (RESIZE-F 2 <fixed>)" ∷ codes "S3" ∷ codes "NIL" ∷ codes "<s3>" ∷ codes "Refused: S1 at (0)" ∷ codes "Refused: UnknownFunction Q" ∷ codes "(5)" ∷ codes "; 34 commands, 23 calls, 10 errors" ∷ [])
+
+pub record ObjectFunctions : Type 0 where
+  pub is_written : output ([]) object_functions_input ≡ record { bytes = object_functions_written; status = Errors }
+
+-- object refusals
+abbrev pub object_refusals_input : List ℕ
+object_refusals_input = lines (codes "(defstobj 5 a)" ∷ codes "(defstobj car a)" ∷ codes "(defstobj st nil)" ∷ codes "(defstobj st (:a))" ∷ codes "(defstobj st a :renaming ((a car)))" ∷ codes "(defstobj car (a :type foo))" ∷ codes "(defstobj st (a :type foo))" ∷ codes "(defstobj st (a :type (satisfies natp)))" ∷ codes "(defstobj st (a :type (array integer (16777217))))" ∷ codes "(defstobj st (a :type (array integer 5)))" ∷ codes "(defstobj st (a :type (array integer (*n*))))" ∷ codes "(defstobj st (a :type (array foo (5))))" ∷ codes "(defstobj st (a :resizable t))" ∷ codes "(defstobj st (h :type (hash-table equalp)))" ∷ codes "(defstobj st (h :type (hash-table)))" ∷ codes "(defstobj st (h :type (hash-table eq) :resizable t))" ∷ codes "(defstobj st (a :type integer) (b :type foo))" ∷ codes "(defstobj st (a :type integer))" ∷ codes "(defstobj st (a :type symbol :initially 'a))" ∷ codes "(defstobj st (h :type (hash-table eq) :initially nil))" ∷ codes "(defstobj st (a :type (array symbol (2)) :initially 5))" ∷ codes "(defstobj natp (a :type integer))" ∷ codes "(defstobj natp a)" ∷ codes "(defstobj st (a :type (or integer null)) (b :type (array bit (2)) :initially 1 :resizable nil) (c :type (hash-table equal 100)))" ∷ codes "(:show st)" ∷ codes "(defstobj st b)" ∷ codes "(defstobj s2 a)" ∷ codes "(defstobj s2 x x)" ∷ codes "(defstobj s2 s2)" ∷ [])
+
+abbrev pub object_refusals_written : List ℕ
+object_refusals_written = lines (codes "Refused: BadName 5" ∷ codes "Refused: BadName CAR" ∷ codes "Refused: BadName NIL" ∷ codes "Refused: BadName :A" ∷ codes "Refused: BadName CAR" ∷ codes "Refused: BadName CAR" ∷ codes "Refused: BadType A" ∷ codes "Refused: BadType A" ∷ codes "Refused: BadType A" ∷ codes "Refused: BadType A" ∷ codes "Refused: BadType A" ∷ codes "Refused: BadType A" ∷ codes "Refused: BadType A" ∷ codes "Refused: BadType H" ∷ codes "Refused: BadType H" ∷ codes "Refused: BadType H" ∷ codes "Refused: BadType B" ∷ codes "Refused: BadInitial A" ∷ codes "Refused: BadInitial A" ∷ codes "Refused: BadInitial H" ∷ codes "Refused: BadInitial A" ∷ codes "Refused: BadInitial A" ∷ codes "Refused: NameInUse NATP" ∷ codes "ST" ∷ codes "(NIL (1 1) NIL)" ∷ codes "Refused: NameInUse ST" ∷ codes "Refused: NameInUse AP" ∷ codes "Refused: NameInUse XP" ∷ codes "Refused: NameInUse S2" ∷ codes "; 29 commands, 0 calls, 27 errors" ∷ [])
+
+pub record ObjectRefusals : Type 0 where
+  pub is_written : output ([]) object_refusals_input ≡ record { bytes = object_refusals_written; status = Errors }
+
+-- object shapes
+abbrev pub object_shapes_input : List ℕ
+object_shapes_input = lines (codes "(defstobj)" ∷ codes "(defstobj st . 5)" ∷ codes "(defstobj st 5)" ∷ codes "(defstobj st (5))" ∷ codes "(defstobj st (a :foo 1))" ∷ codes "(defstobj st (a :type))" ∷ codes "(defstobj st (a :type integer :type integer))" ∷ codes "(defstobj st (a :resizable 5))" ∷ codes "(defstobj st a :foo 1)" ∷ codes "(defstobj st :foo)" ∷ codes "(defstobj st a :inline)" ∷ codes "(defstobj st :inline t a)" ∷ codes "(defstobj st a :inline t :inline t)" ∷ codes "(defstobj st a :non-executable t)" ∷ codes "(defstobj st a :congruent-to nope)" ∷ codes "(defstobj st a :renaming (a b))" ∷ codes "(defstobj st a :renaming ((a)))" ∷ codes "(defstobj st a :renaming ((a 5)))" ∷ codes "(defstobj st a :inline t :non-memoizable t :non-executable nil :renaming nil)" ∷ codes "(defstobj empty)" ∷ codes "(:show empty)" ∷ [])
+
+abbrev pub object_shapes_written : List ℕ
+object_shapes_written = lines (codes "Refused: BadShape DEFSTOBJ" ∷ codes "Refused: BadShape DEFSTOBJ" ∷ codes "Refused: BadShape DEFSTOBJ" ∷ codes "Refused: BadShape DEFSTOBJ" ∷ codes "Refused: BadShape DEFSTOBJ" ∷ codes "Refused: BadShape DEFSTOBJ" ∷ codes "Refused: BadShape DEFSTOBJ" ∷ codes "Refused: BadShape DEFSTOBJ" ∷ codes "Refused: BadShape DEFSTOBJ" ∷ codes "Refused: BadShape DEFSTOBJ" ∷ codes "Refused: BadShape DEFSTOBJ" ∷ codes "Refused: BadShape DEFSTOBJ" ∷ codes "Refused: BadShape DEFSTOBJ" ∷ codes "Refused: BadShape DEFSTOBJ" ∷ codes "Refused: BadShape DEFSTOBJ" ∷ codes "Refused: BadShape DEFSTOBJ" ∷ codes "Refused: BadShape DEFSTOBJ" ∷ codes "Refused: BadShape DEFSTOBJ" ∷ codes "ST" ∷ codes "EMPTY" ∷ codes "NIL" ∷ codes "; 21 commands, 0 calls, 18 errors" ∷ [])
+
+pub record ObjectShapes : Type 0 where
+  pub is_written : output ([]) object_shapes_input ≡ record { bytes = object_shapes_written; status = Errors }
 
 -- optional formals
 abbrev pub optional_formals_input : List ℕ
@@ -152,6 +242,16 @@ other_macros_written = lines (codes "2" ∷ codes "Guard violation: (CAR 1)" ∷
 
 pub record OtherMacros : Type 0 where
   pub is_written : output ([]) other_macros_input ≡ record { bytes = other_macros_written; status = Errors }
+
+-- packages
+abbrev pub packages_input : List ℕ
+packages_input = lines (codes "(defpkg \"P\" 5)" ∷ codes "(defpkg p nil)" ∷ codes "(defpkg \"P\")" ∷ codes "(defpkg \"P\" '(a 5))" ∷ codes "(defpkg \"P\" (car 5))" ∷ codes "(defpkg \"P\" (list x))" ∷ codes "(defpkg \"ACL2\" nil)" ∷ codes "(defpkg \"%\" nil)" ∷ codes "(defpkg \"P\" '(a :a))" ∷ codes "(defpkg \"P\" '(b a b :a))" ∷ codes "(defpkg \"P\" '(a b) \"text\")" ∷ codes "(in-package \"Q\")" ∷ codes "(in-package \"%\")" ∷ codes "(in-package p)" ∷ codes "(in-package)" ∷ codes "(in-package \"P\")" ∷ codes "'(a c)" ∷ codes "(quote a)" ∷ codes "nil" ∷ codes "'nil" ∷ codes "'acl2::nil" ∷ codes "(acl2::if acl2::nil 1 'acl2::car)" ∷ codes "(5)" ∷ codes "(acl2::and . 5)" ∷ codes "(acl2::defun f (x) (acl2::cons x 'y))" ∷ codes "(f 1)" ∷ codes "(defun g (x) x)" ∷ codes "(acl2::mv (f a) 1)" ∷ codes "(acl2::in-package \"ACL2\")" ∷ codes "(p::f 'p::a)" ∷ [])
+
+abbrev pub packages_written : List ℕ
+packages_written = lines (codes "Refused: BadShape DEFPKG" ∷ codes "Refused: BadShape DEFPKG" ∷ codes "Refused: BadShape DEFPKG" ∷ codes "Refused: BadShape DEFPKG" ∷ codes "Guard violation: (CAR 5)" ∷ codes "Refused: S11 at (0)" ∷ codes "Refused: PackageExists \"ACL2\"" ∷ codes "Refused: PackageExists \"%\"" ∷ codes "Refused: ImportClash A :A" ∷ codes "Refused: ImportClash A :A" ∷ codes "\"P\"" ∷ codes "Refused: UnknownPackage \"Q\"" ∷ codes "Refused: UnknownPackage \"%\"" ∷ codes "Refused: BadShape IN-PACKAGE" ∷ codes "Refused: BadShape IN-PACKAGE" ∷ codes "\"P\"" ∷ codes "(A C)" ∷ codes "Refused: UnknownFunction QUOTE" ∷ codes "Refused: S11 at ()" ∷ codes "NIL" ∷ codes "COMMON-LISP::NIL" ∷ codes "COMMON-LISP::CAR" ∷ codes "Refused: BadShape COMMON-LISP::NIL" ∷ codes "Refused: BadShape COMMON-LISP::AND" ∷ codes "F" ∷ codes "(1 . Y)" ∷ codes "Refused: UnknownFunction DEFUN" ∷ codes "Refused: S11 at (0 0)" ∷ codes "\"ACL2\"" ∷ codes "(A . P::Y)" ∷ codes "; 30 commands, 7 calls, 20 errors" ∷ [])
+
+pub record Packages : Type 0 where
+  pub is_written : output ([]) packages_input ≡ record { bytes = packages_written; status = Errors }
 
 -- rest and keys
 abbrev pub rest_and_keys_input : List ℕ

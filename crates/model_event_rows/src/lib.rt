@@ -2,7 +2,19 @@
 //! tools/rows.py from the files in rows/.
 #![tactic(auto)]
 
-ghost use Rattle.model_event_rows.specs.Rows.{ArithmeticMacros, BindingForms, CoreShapes, CountsAtRefusals, Declarations, DeclaredTypes, Formals, FunctionNames, FunctionShapes, ListMacros, LogicalMacros, MacroRefusals, MacrosStop, OptionalFormals, OtherMacros, RestAndKeys, TheOfTypes};
+ghost use Rattle.model_event_rows.specs.Rows.{AbstractOutputs, AbstractRefusals, ArithmeticMacros, BindingForms, Congruence, Constants, CoreShapes, CountsAtRefusals, Declarations, DeclaredTypes, Formals, FunctionNames, FunctionShapes, Heads, Limits, ListMacros, LogicalMacros, MacroRefusals, MacrosStop, ObjectFunctions, ObjectRefusals, ObjectShapes, OptionalFormals, OtherMacros, Packages, RestAndKeys, TheOfTypes};
+
+/// The row `abstract_outputs`.
+#[tactic(auto, using(crate::proofs::RowAbstractOutputs::is_computed))]
+pub fn abstract_outputs()
+    ensures { AbstractOutputs }
+{}
+
+/// The row `abstract_refusals`.
+#[tactic(auto, using(crate::proofs::RowAbstractRefusals::is_computed))]
+pub fn abstract_refusals()
+    ensures { AbstractRefusals }
+{}
 
 /// The row `arithmetic_macros`.
 #[tactic(auto, using(crate::proofs::RowArithmeticMacros::is_computed))]
@@ -14,6 +26,18 @@ pub fn arithmetic_macros()
 #[tactic(auto, using(crate::proofs::RowBindingForms::is_computed))]
 pub fn binding_forms()
     ensures { BindingForms }
+{}
+
+/// The row `congruence`.
+#[tactic(auto, using(crate::proofs::RowCongruence::is_computed))]
+pub fn congruence()
+    ensures { Congruence }
+{}
+
+/// The row `constants`.
+#[tactic(auto, using(crate::proofs::RowConstants::is_computed))]
+pub fn constants()
+    ensures { Constants }
 {}
 
 /// The row `core_shapes`.
@@ -58,6 +82,18 @@ pub fn function_shapes()
     ensures { FunctionShapes }
 {}
 
+/// The row `heads`.
+#[tactic(auto, using(crate::proofs::RowHeads::is_computed))]
+pub fn heads()
+    ensures { Heads }
+{}
+
+/// The row `limits`.
+#[tactic(auto, using(crate::proofs::RowLimits::is_computed))]
+pub fn limits()
+    ensures { Limits }
+{}
+
 /// The row `list_macros`.
 #[tactic(auto, using(crate::proofs::RowListMacros::is_computed))]
 pub fn list_macros()
@@ -82,6 +118,24 @@ pub fn macros_stop()
     ensures { MacrosStop }
 {}
 
+/// The row `object_functions`.
+#[tactic(auto, using(crate::proofs::RowObjectFunctions::is_computed))]
+pub fn object_functions()
+    ensures { ObjectFunctions }
+{}
+
+/// The row `object_refusals`.
+#[tactic(auto, using(crate::proofs::RowObjectRefusals::is_computed))]
+pub fn object_refusals()
+    ensures { ObjectRefusals }
+{}
+
+/// The row `object_shapes`.
+#[tactic(auto, using(crate::proofs::RowObjectShapes::is_computed))]
+pub fn object_shapes()
+    ensures { ObjectShapes }
+{}
+
 /// The row `optional_formals`.
 #[tactic(auto, using(crate::proofs::RowOptionalFormals::is_computed))]
 pub fn optional_formals()
@@ -92,6 +146,12 @@ pub fn optional_formals()
 #[tactic(auto, using(crate::proofs::RowOtherMacros::is_computed))]
 pub fn other_macros()
     ensures { OtherMacros }
+{}
+
+/// The row `packages`.
+#[tactic(auto, using(crate::proofs::RowPackages::is_computed))]
+pub fn packages()
+    ensures { Packages }
 {}
 
 /// The row `rest_and_keys`.
