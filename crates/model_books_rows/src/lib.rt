@@ -1,0 +1,275 @@
+//! Worked books, each computed from the definitions: from the bytes of a book to the bytes of its answers. Written by
+//! tools/rows.py from the files in rows/.
+#![tactic(auto)]
+
+ghost use Rattle.model_books_rows.specs.Rows.{AbstractCaller, BadByte, BadDot, BadWords, CellsGivenBack, ChildAtAStop, ChildBoundTwice, ChildrenOfOneArray, CommaOutside, CongruentObjects, CongruentParents, EmptyInput, FirstRules, GuardViolation, HashField, HeldCells, Hexadecimal, IdentityAbstraction, InPackage, ListAtAStop, LiteralTooWide, LocalObject, NarrowestLiteral, NestingLimit, NestingLimitAlone, ObjectBoundBesideAValue, OneStepShort, OpenString, PackageOfItsOwn, Primitives, Ratio, Refusals, Resizing, StackMachine, StepsExactly, StoppedBetweenUpdates, StrayClose, ThreeCommands, TooDeep, Unfinished, UnknownPackage, UserMacro, ValueAndObject, WeightLimit, WidestInteger};
+
+/// The row `abstract_caller`.
+#[tactic(auto, using(crate::proofs::RowAbstractCaller::is_computed))]
+pub fn abstract_caller()
+    ensures { AbstractCaller }
+{}
+
+/// The row `bad_byte`.
+#[tactic(auto, using(crate::proofs::RowBadByte::is_computed))]
+pub fn bad_byte()
+    ensures { BadByte }
+{}
+
+/// The row `bad_dot`.
+#[tactic(auto, using(crate::proofs::RowBadDot::is_computed))]
+pub fn bad_dot()
+    ensures { BadDot }
+{}
+
+/// The row `bad_words`.
+#[tactic(auto, using(crate::proofs::RowBadWords::is_computed))]
+pub fn bad_words()
+    ensures { BadWords }
+{}
+
+/// The row `cells_given_back`.
+#[tactic(auto, using(crate::proofs::RowCellsGivenBack::is_computed))]
+pub fn cells_given_back()
+    ensures { CellsGivenBack }
+{}
+
+/// The row `child_at_a_stop`.
+#[tactic(auto, using(crate::proofs::RowChildAtAStop::is_computed))]
+pub fn child_at_a_stop()
+    ensures { ChildAtAStop }
+{}
+
+/// The row `child_bound_twice`.
+#[tactic(auto, using(crate::proofs::RowChildBoundTwice::is_computed))]
+pub fn child_bound_twice()
+    ensures { ChildBoundTwice }
+{}
+
+/// The row `children_of_one_array`.
+#[tactic(auto, using(crate::proofs::RowChildrenOfOneArray::is_computed))]
+pub fn children_of_one_array()
+    ensures { ChildrenOfOneArray }
+{}
+
+/// The row `comma_outside`.
+#[tactic(auto, using(crate::proofs::RowCommaOutside::is_computed))]
+pub fn comma_outside()
+    ensures { CommaOutside }
+{}
+
+/// The row `congruent_objects`.
+#[tactic(auto, using(crate::proofs::RowCongruentObjects::is_computed))]
+pub fn congruent_objects()
+    ensures { CongruentObjects }
+{}
+
+/// The row `congruent_parents`.
+#[tactic(auto, using(crate::proofs::RowCongruentParents::is_computed))]
+pub fn congruent_parents()
+    ensures { CongruentParents }
+{}
+
+/// The row `empty_input`.
+#[tactic(auto, using(crate::proofs::RowEmptyInput::is_computed))]
+pub fn empty_input()
+    ensures { EmptyInput }
+{}
+
+/// The row `first_rules`.
+#[tactic(auto, using(crate::proofs::RowFirstRules::is_computed))]
+pub fn first_rules()
+    ensures { FirstRules }
+{}
+
+/// The row `guard_violation`.
+#[tactic(auto, using(crate::proofs::RowGuardViolation::is_computed))]
+pub fn guard_violation()
+    ensures { GuardViolation }
+{}
+
+/// The row `hash_field`.
+#[tactic(auto, using(crate::proofs::RowHashField::is_computed))]
+pub fn hash_field()
+    ensures { HashField }
+{}
+
+/// The row `held_cells`.
+#[tactic(auto, using(crate::proofs::RowHeldCells::is_computed))]
+pub fn held_cells()
+    ensures { HeldCells }
+{}
+
+/// The row `hexadecimal`.
+#[tactic(auto, using(crate::proofs::RowHexadecimal::is_computed))]
+pub fn hexadecimal()
+    ensures { Hexadecimal }
+{}
+
+/// The row `identity_abstraction`.
+#[tactic(auto, using(crate::proofs::RowIdentityAbstraction::is_computed))]
+pub fn identity_abstraction()
+    ensures { IdentityAbstraction }
+{}
+
+/// The row `in_package`.
+#[tactic(auto, using(crate::proofs::RowInPackage::is_computed))]
+pub fn in_package()
+    ensures { InPackage }
+{}
+
+/// The row `list_at_a_stop`.
+#[tactic(auto, using(crate::proofs::RowListAtAStop::is_computed))]
+pub fn list_at_a_stop()
+    ensures { ListAtAStop }
+{}
+
+/// The row `literal_too_wide`.
+#[tactic(auto, using(crate::proofs::RowLiteralTooWide::is_computed))]
+pub fn literal_too_wide()
+    ensures { LiteralTooWide }
+{}
+
+/// The row `local_object`.
+#[tactic(auto, using(crate::proofs::RowLocalObject::is_computed))]
+pub fn local_object()
+    ensures { LocalObject }
+{}
+
+/// The row `narrowest_literal`.
+#[tactic(auto, using(crate::proofs::RowNarrowestLiteral::is_computed))]
+pub fn narrowest_literal()
+    ensures { NarrowestLiteral }
+{}
+
+/// The row `nesting_limit`.
+#[tactic(auto, using(crate::proofs::RowNestingLimit::is_computed))]
+pub fn nesting_limit()
+    ensures { NestingLimit }
+{}
+
+/// The row `nesting_limit_alone`.
+#[tactic(auto, using(crate::proofs::RowNestingLimitAlone::is_computed))]
+pub fn nesting_limit_alone()
+    ensures { NestingLimitAlone }
+{}
+
+/// The row `object_bound_beside_a_value`.
+#[tactic(auto, using(crate::proofs::RowObjectBoundBesideAValue::is_computed))]
+pub fn object_bound_beside_a_value()
+    ensures { ObjectBoundBesideAValue }
+{}
+
+/// The row `one_step_short`.
+#[tactic(auto, using(crate::proofs::RowOneStepShort::is_computed))]
+pub fn one_step_short()
+    ensures { OneStepShort }
+{}
+
+/// The row `open_string`.
+#[tactic(auto, using(crate::proofs::RowOpenString::is_computed))]
+pub fn open_string()
+    ensures { OpenString }
+{}
+
+/// The row `package_of_its_own`.
+#[tactic(auto, using(crate::proofs::RowPackageOfItsOwn::is_computed))]
+pub fn package_of_its_own()
+    ensures { PackageOfItsOwn }
+{}
+
+/// The row `primitives`.
+#[tactic(auto, using(crate::proofs::RowPrimitives::is_computed))]
+pub fn primitives()
+    ensures { Primitives }
+{}
+
+/// The row `ratio`.
+#[tactic(auto, using(crate::proofs::RowRatio::is_computed))]
+pub fn ratio()
+    ensures { Ratio }
+{}
+
+/// The row `refusals`.
+#[tactic(auto, using(crate::proofs::RowRefusals::is_computed))]
+pub fn refusals()
+    ensures { Refusals }
+{}
+
+/// The row `resizing`.
+#[tactic(auto, using(crate::proofs::RowResizing::is_computed))]
+pub fn resizing()
+    ensures { Resizing }
+{}
+
+/// The row `stack_machine`.
+#[tactic(auto, using(crate::proofs::RowStackMachine::is_computed))]
+pub fn stack_machine()
+    ensures { StackMachine }
+{}
+
+/// The row `steps_exactly`.
+#[tactic(auto, using(crate::proofs::RowStepsExactly::is_computed))]
+pub fn steps_exactly()
+    ensures { StepsExactly }
+{}
+
+/// The row `stopped_between_updates`.
+#[tactic(auto, using(crate::proofs::RowStoppedBetweenUpdates::is_computed))]
+pub fn stopped_between_updates()
+    ensures { StoppedBetweenUpdates }
+{}
+
+/// The row `stray_close`.
+#[tactic(auto, using(crate::proofs::RowStrayClose::is_computed))]
+pub fn stray_close()
+    ensures { StrayClose }
+{}
+
+/// The row `three_commands`.
+#[tactic(auto, using(crate::proofs::RowThreeCommands::is_computed))]
+pub fn three_commands()
+    ensures { ThreeCommands }
+{}
+
+/// The row `too_deep`.
+#[tactic(auto, using(crate::proofs::RowTooDeep::is_computed))]
+pub fn too_deep()
+    ensures { TooDeep }
+{}
+
+/// The row `unfinished`.
+#[tactic(auto, using(crate::proofs::RowUnfinished::is_computed))]
+pub fn unfinished()
+    ensures { Unfinished }
+{}
+
+/// The row `unknown_package`.
+#[tactic(auto, using(crate::proofs::RowUnknownPackage::is_computed))]
+pub fn unknown_package()
+    ensures { UnknownPackage }
+{}
+
+/// The row `user_macro`.
+#[tactic(auto, using(crate::proofs::RowUserMacro::is_computed))]
+pub fn user_macro()
+    ensures { UserMacro }
+{}
+
+/// The row `value_and_object`.
+#[tactic(auto, using(crate::proofs::RowValueAndObject::is_computed))]
+pub fn value_and_object()
+    ensures { ValueAndObject }
+{}
+
+/// The row `weight_limit`.
+#[tactic(auto, using(crate::proofs::RowWeightLimit::is_computed))]
+pub fn weight_limit()
+    ensures { WeightLimit }
+{}
+
+/// The row `widest_integer`.
+#[tactic(auto, using(crate::proofs::RowWidestInteger::is_computed))]
+pub fn widest_integer()
+    ensures { WidestInteger }
+{}

@@ -1,0 +1,167 @@
+//! Books of expansion and of events, each computed from the definitions: shapes, refusals in their order, counts. Written by
+//! tools/rows.py from the files in rows/.
+#![tactic(auto)]
+
+ghost use Rattle.model_event_rows.specs.Rows.{AbstractOutputs, AbstractRefusals, ArithmeticMacros, BindingForms, Congruence, Constants, CoreShapes, CountsAtRefusals, Declarations, DeclaredTypes, Formals, FunctionNames, FunctionShapes, Heads, Limits, ListMacros, LogicalMacros, MacroRefusals, MacrosStop, ObjectFunctions, ObjectRefusals, ObjectShapes, OptionalFormals, OtherMacros, Packages, RestAndKeys, TheOfTypes};
+
+/// The row `abstract_outputs`.
+#[tactic(auto, using(crate::proofs::RowAbstractOutputs::is_computed))]
+pub fn abstract_outputs()
+    ensures { AbstractOutputs }
+{}
+
+/// The row `abstract_refusals`.
+#[tactic(auto, using(crate::proofs::RowAbstractRefusals::is_computed))]
+pub fn abstract_refusals()
+    ensures { AbstractRefusals }
+{}
+
+/// The row `arithmetic_macros`.
+#[tactic(auto, using(crate::proofs::RowArithmeticMacros::is_computed))]
+pub fn arithmetic_macros()
+    ensures { ArithmeticMacros }
+{}
+
+/// The row `binding_forms`.
+#[tactic(auto, using(crate::proofs::RowBindingForms::is_computed))]
+pub fn binding_forms()
+    ensures { BindingForms }
+{}
+
+/// The row `congruence`.
+#[tactic(auto, using(crate::proofs::RowCongruence::is_computed))]
+pub fn congruence()
+    ensures { Congruence }
+{}
+
+/// The row `constants`.
+#[tactic(auto, using(crate::proofs::RowConstants::is_computed))]
+pub fn constants()
+    ensures { Constants }
+{}
+
+/// The row `core_shapes`.
+#[tactic(auto, using(crate::proofs::RowCoreShapes::is_computed))]
+pub fn core_shapes()
+    ensures { CoreShapes }
+{}
+
+/// The row `counts_at_refusals`.
+#[tactic(auto, using(crate::proofs::RowCountsAtRefusals::is_computed))]
+pub fn counts_at_refusals()
+    ensures { CountsAtRefusals }
+{}
+
+/// The row `declarations`.
+#[tactic(auto, using(crate::proofs::RowDeclarations::is_computed))]
+pub fn declarations()
+    ensures { Declarations }
+{}
+
+/// The row `declared_types`.
+#[tactic(auto, using(crate::proofs::RowDeclaredTypes::is_computed))]
+pub fn declared_types()
+    ensures { DeclaredTypes }
+{}
+
+/// The row `formals`.
+#[tactic(auto, using(crate::proofs::RowFormals::is_computed))]
+pub fn formals()
+    ensures { Formals }
+{}
+
+/// The row `function_names`.
+#[tactic(auto, using(crate::proofs::RowFunctionNames::is_computed))]
+pub fn function_names()
+    ensures { FunctionNames }
+{}
+
+/// The row `function_shapes`.
+#[tactic(auto, using(crate::proofs::RowFunctionShapes::is_computed))]
+pub fn function_shapes()
+    ensures { FunctionShapes }
+{}
+
+/// The row `heads`.
+#[tactic(auto, using(crate::proofs::RowHeads::is_computed))]
+pub fn heads()
+    ensures { Heads }
+{}
+
+/// The row `limits`.
+#[tactic(auto, using(crate::proofs::RowLimits::is_computed))]
+pub fn limits()
+    ensures { Limits }
+{}
+
+/// The row `list_macros`.
+#[tactic(auto, using(crate::proofs::RowListMacros::is_computed))]
+pub fn list_macros()
+    ensures { ListMacros }
+{}
+
+/// The row `logical_macros`.
+#[tactic(auto, using(crate::proofs::RowLogicalMacros::is_computed))]
+pub fn logical_macros()
+    ensures { LogicalMacros }
+{}
+
+/// The row `macro_refusals`.
+#[tactic(auto, using(crate::proofs::RowMacroRefusals::is_computed))]
+pub fn macro_refusals()
+    ensures { MacroRefusals }
+{}
+
+/// The row `macros_stop`.
+#[tactic(auto, using(crate::proofs::RowMacrosStop::is_computed))]
+pub fn macros_stop()
+    ensures { MacrosStop }
+{}
+
+/// The row `object_functions`.
+#[tactic(auto, using(crate::proofs::RowObjectFunctions::is_computed))]
+pub fn object_functions()
+    ensures { ObjectFunctions }
+{}
+
+/// The row `object_refusals`.
+#[tactic(auto, using(crate::proofs::RowObjectRefusals::is_computed))]
+pub fn object_refusals()
+    ensures { ObjectRefusals }
+{}
+
+/// The row `object_shapes`.
+#[tactic(auto, using(crate::proofs::RowObjectShapes::is_computed))]
+pub fn object_shapes()
+    ensures { ObjectShapes }
+{}
+
+/// The row `optional_formals`.
+#[tactic(auto, using(crate::proofs::RowOptionalFormals::is_computed))]
+pub fn optional_formals()
+    ensures { OptionalFormals }
+{}
+
+/// The row `other_macros`.
+#[tactic(auto, using(crate::proofs::RowOtherMacros::is_computed))]
+pub fn other_macros()
+    ensures { OtherMacros }
+{}
+
+/// The row `packages`.
+#[tactic(auto, using(crate::proofs::RowPackages::is_computed))]
+pub fn packages()
+    ensures { Packages }
+{}
+
+/// The row `rest_and_keys`.
+#[tactic(auto, using(crate::proofs::RowRestAndKeys::is_computed))]
+pub fn rest_and_keys()
+    ensures { RestAndKeys }
+{}
+
+/// The row `the_of_types`.
+#[tactic(auto, using(crate::proofs::RowTheOfTypes::is_computed))]
+pub fn the_of_types()
+    ensures { TheOfTypes }
+{}

@@ -1,0 +1,82 @@
+-- Events: each brings definitions, an object, or a package, or is refused.
+use Rattle.std.specs.Prelude.{ℕ, List, [], ◌∷◌, ◌++◌, map, Option, Some, None, nat_eq, if◌then◌else◌}
+use Rattle.model_objects.specs.Object.{Object}
+use Rattle.model_symbols.specs.Symbols.{Package, package_at}
+use Rattle.model_terms.specs.Worlds.{World, Definition, Descriptor, AbstractDescriptor, name_of}
+use Rattle.model_events.specs.Words.{in_package_word, defpkg_word, defconst_word, defmacro_word, mutual_recursion_word, defstobj_word, defabsstobj_word}
+use Rattle.model_events.specs.Expansion.{Setting, Progress}
+use Rattle.model_events.specs.Answers.{Answer, Grants, unless, then_grant}
+use Rattle.model_events.specs.Objects.{descriptor_read}
+use Rattle.model_events.specs.Entries.{object_entries}
+use Rattle.model_events.specs.Functions.{functions_read}
+use Rattle.model_events.specs.Macros.{macro_read}
+use Rattle.model_events.specs.Constants.{constant_read, package_read, current_read}
+use Rattle.model_events.specs.Abstracts.{abstract_read, abstract_entries}
+use Rattle.model_events.specs.Obligations.{Obligation, obligations, too_large}
+
+-- definitions, packages, and the number of the current package
+pub record Standing : Type 0 where
+  pub world : World
+  pub packages : List Package
+  pub current : ℕ
+
+-- what is said of an event that was admitted
+pub data Said : Type 0 where
+  Name : ℕ → Said
+  Names : List ℕ → Said
+  PackageName : List ℕ → Said
+  Obliged : ℕ → List Obligation → Said
+
+pub record Admitted : Type 0 where
+  pub standing : Standing
+  pub created : Option ℕ  -- the object that it makes
+  pub said : Said
+
+-- the most calls, and the most forms open at once
+pub record Limits : Type 0 where
+  pub steps : ℕ
+  pub depth : ℕ
+
+module _ (s : Standing) where
+  abbrev pub setting : Limits → Setting
+  setting k = record { world = s.world; packages = s.packages; steps = k.steps; depth = k.depth }
+
+  abbrev pub defining : World → Standing
+  defining entries = record s { world = s.world ++ entries }
+
+  abbrev pub names_said : ℕ → World → Said
+  names_said head [] = Names []
+  names_said head (d ∷ ds) = if nat_eq head mutual_recursion_word then Names (map name_of (d ∷ ds)) else Name (name_of d)
+
+  -- definitions of functions, macros or constants
+  abbrev pub definitions_admitted : ℕ → World → Progress → Answer Admitted
+  definitions_admitted head entries p = Grants (record { standing = defining entries; created = None; said = names_said head entries }) p
+
+  abbrev pub object_admitted : Descriptor → Progress → Answer Admitted
+  object_admitted d p = Grants (record { standing = defining (object_entries s.world d); created = Some d.name; said = Name d.name }) p
+
+  abbrev pub obligations_admitted : AbstractDescriptor → List Obligation → Progress → Answer Admitted
+  obligations_admitted d os p =
+      unless (too_large os) (Grants (record { standing = defining (abstract_entries s.world d); created = Some d.name; said = Obliged d.name os })) p
+
+  abbrev pub abstract_admitted : AbstractDescriptor → Progress → Answer Admitted
+  abstract_admitted d p = obligations_admitted d (obligations s.world p.symbols d) p
+
+  abbrev pub package_admitted : Package → Progress → Answer Admitted
+  package_admitted q p =
+      Grants (record { standing = record s { packages = s.packages ++ q ∷ [] }; created = None; said = PackageName q.name }) p
+
+  abbrev pub current_admitted : ℕ → Progress → Answer Admitted
+  current_admitted n p =
+      Grants (record { standing = record s { current = n }; created = None; said = PackageName (package_at s.packages n).name }) p
+
+  -- an event with this head, from what stands behind it
+  unfoldable pub admitted : Limits → ℕ → Object ℕ → Progress → Answer Admitted
+  admitted k head d p =
+      if nat_eq head in_package_word then then_grant (current_read s.packages d p) current_admitted
+      else if nat_eq head defpkg_word then then_grant (package_read (setting k) d p) package_admitted
+      else if nat_eq head defconst_word then then_grant (constant_read (setting k) d p) (definitions_admitted head)
+      else if nat_eq head defmacro_word then then_grant (macro_read (setting k) d p) (definitions_admitted head)
+      else if nat_eq head defstobj_word then then_grant (descriptor_read s.world s.packages d p) object_admitted
+      else if nat_eq head defabsstobj_word then then_grant (abstract_read s.world s.packages d p) abstract_admitted
+      else then_grant (functions_read (setting k) head d p) (definitions_admitted head)

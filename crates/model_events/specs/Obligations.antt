@@ -1,0 +1,161 @@
+-- The obligations of an abstract object: names and forms, in the order in which they are printed.
+use Rattle.std.specs.Prelude.{ℕ, ◌+◌, List, [], ◌∷◌, ◌++◌, map, length, pos, Bool, true, false, not, ◌&&◌, Option, Some, None, nat_eq, nat_le, codes, if◌then◌else◌}
+use Rattle.std.specs.Option.{option_or}
+use Rattle.std.specs.List.{zip, find, list_any}
+use Rattle.model_objects.specs.Object.{Object, Integer, Symbol, Pair, weight, max_weight}
+use Rattle.model_symbols.specs.Symbols.{QualifiedName}
+use Rattle.model_symbols.specs.Opening.{quote, truth}
+use Rattle.model_lists.specs.Types.{and_word}
+use Rattle.model_terms.specs.Cores.{Core, Cores, none, more, Var, Const, If, Let, Mv, MvLet, StobjLet, WithLocal, MustBeEqual, Call, cores}
+use Rattle.model_terms.specs.Worlds.{World, Out, Ordinary, Stobj, Signature, Function, AbstractFunction, AbstractDescriptor, GeneratedFunction, Definition, Defined, Generated, definition}
+use Rattle.model_terms.specs.Nested.{is_object}
+use Rattle.model_events.specs.Words.{if_word, let_word, mv_word, mv_let_word, stobj_let_word, with_local_word, must_be_equal_word, implies_word, equal_word, nth_word}
+use Rattle.model_events.specs.Forms.{list, name_of}
+use Rattle.model_events.specs.TypeTerms.{true_core}
+use Rattle.model_events.specs.Faults.{Refusal, TooLarge}
+use Rattle.model_events.specs.Guards.{renamed_core, generated_guard}
+use Rattle.model_events.specs.Abstracts.{signature, formals, with_object_named, export_formals, logic_guard}
+
+-- ---- core forms as objects
+
+abbrev pub quoted : Object ℕ → Object ℕ
+quoted o = list (Symbol quote ∷ o ∷ [])
+
+abbrev pub symbols_list : List ℕ → Object ℕ
+symbols_list xs = list (map (λ x. Symbol x) xs)
+
+-- a call, a constant in its quotes
+unfoldable mutual
+  pub core_object : Core → Object ℕ
+  core_object (Var x) = Symbol x
+  core_object (Const o) = quoted o
+  core_object (If a b c) = list (Symbol if_word ∷ core_object a ∷ core_object b ∷ core_object c ∷ [])
+  core_object (Let names bound body) = list (Symbol let_word ∷ list (binding_objects bound names) ∷ core_object body ∷ [])
+  core_object (Mv parts) = list (Symbol mv_word ∷ core_objects parts)
+  core_object (MvLet names bound body) = list (Symbol mv_let_word ∷ symbols_list names ∷ core_object bound ∷ core_object body ∷ [])
+  core_object (StobjLet names bound vars producer consumer) =
+      list (Symbol stobj_let_word ∷ list (binding_objects bound names) ∷ symbols_list vars ∷ core_object producer ∷ core_object consumer ∷ [])
+  core_object (WithLocal object names producer body) =
+      list (Symbol with_local_word ∷ Symbol object ∷ list (Symbol mv_let_word ∷ symbols_list names ∷ core_object producer ∷ core_object body ∷ []) ∷ [])
+  core_object (MustBeEqual logic exec) = list (Symbol must_be_equal_word ∷ core_object logic ∷ core_object exec ∷ [])
+  core_object (Call f actuals) = list (Symbol f ∷ core_objects actuals)
+
+  pub core_objects : Cores → List (Object ℕ)
+  core_objects none = []
+  core_objects (more f fs) = core_object f ∷ core_objects fs
+
+  pub binding_objects : Cores → List ℕ → List (Object ℕ)
+  binding_objects none names = []
+  binding_objects (more f fs) [] = []
+  binding_objects (more f fs) (x ∷ xs) = list (Symbol x ∷ core_object f ∷ []) ∷ binding_objects fs xs
+
+-- ---- forms
+
+abbrev pub call : ℕ → List (Object ℕ) → Object ℕ
+call f os = list (Symbol f ∷ os)
+
+abbrev pub is_true_core : Core → Bool
+is_true_core (Const (Symbol s)) = nat_eq s truth
+is_true_core f = false
+
+-- also that a guard holds, where it asks anything
+abbrev pub and_guard : Object ℕ → Core → Object ℕ
+and_guard h g = if is_true_core g then h else call and_word (h ∷ core_object g ∷ [])
+
+abbrev pub implies : Object ℕ → Object ℕ → Object ℕ
+implies h c = call implies_word (h ∷ c ∷ [])
+
+abbrev pub part_of : ℕ → Object ℕ → Object ℕ
+part_of k o = call nth_word (quoted (Integer (pos k)) ∷ o ∷ [])
+
+-- ---- an obligation: whose it is, its name, and its form
+
+pub record Obligation : Type 0 where
+  pub owner : ℕ
+  pub name : List ℕ
+  pub form : Object ℕ
+
+module _ (w : World) (symbols : List QualifiedName) (d : AbstractDescriptor) where
+  abbrev pub obligation : ℕ → List ℕ → Object ℕ → Obligation
+  obligation owner suffix form = record { owner = owner; name = name_of symbols owner ++ suffix; form = form }
+
+  abbrev pub corresponds : Object ℕ → Object ℕ → Object ℕ
+  corresponds c a = call d.corr (c ∷ a ∷ [])
+
+  abbrev pub is_well_formed : Object ℕ → Object ℕ
+  is_well_formed a = call d.recognizer.logic (a ∷ [])
+
+  abbrev pub st : Object ℕ
+  st = Symbol d.name
+
+  -- the logic formals with the foundation's name where the object stands
+  abbrev pub exec_actuals : AbstractFunction → List ℕ
+  exec_actuals f = with_object_named w d.foundation (signature w f.exec).ins (formals w f.logic)
+
+  abbrev pub logic_call : AbstractFunction → Object ℕ
+  logic_call f = call f.logic (map (λ x. Symbol x) (export_formals w d f))
+
+  abbrev pub exec_call : AbstractFunction → Object ℕ
+  exec_call f = call f.exec (map (λ x. Symbol x) (exec_actuals f))
+
+  -- the lists correspond, and the logic guard holds
+  abbrev pub hypothesis : AbstractFunction → Object ℕ
+  hypothesis f = and_guard (corresponds (Symbol d.foundation) st) (logic_guard w d f)
+
+  abbrev pub output_equation : Out → Object ℕ → Object ℕ → Object ℕ
+  output_equation Ordinary a c = call equal_word (a ∷ c ∷ [])
+  output_equation (Stobj x) a c = corresponds c a
+
+  abbrev pub output_equations : ℕ → List Out → Object ℕ → Object ℕ → List (Object ℕ)
+  output_equations k [] a c = []
+  output_equations k (o ∷ os) a c = output_equation o (part_of k a) (part_of k c) ∷ output_equations (k + 1) os a c
+
+  -- one output, or all of several
+  abbrev pub outputs_correspond : List Out → Object ℕ → Object ℕ → Object ℕ
+  outputs_correspond (o ∷ []) a c = output_equation o a c
+  outputs_correspond os a c = call and_word (output_equations 0 os a c)
+
+  -- the exec function's guard, over the logic formals and the foundation
+  abbrev pub exec_guard_of : AbstractFunction → Option Definition → Core
+  exec_guard_of f (Some (Defined e)) = renamed_core e.guard (zip e.formals (exec_actuals f))
+  exec_guard_of f (Some (Generated g)) = generated_guard w g (map Var (exec_actuals f))
+  exec_guard_of f e = true_core
+
+  abbrev pub guard_obligation : AbstractFunction → Core → List Obligation
+  guard_obligation f e = if is_true_core e then [] else obligation f.name (codes "{GUARD-THM}") (implies (hypothesis f) (core_object e)) ∷ []
+
+  -- the value is a list of the object, from the place where it stands among the outputs
+  abbrev pub preserved_from : ℕ → Bool → List Out → Object ℕ → List (Object ℕ)
+  preserved_from k alone [] a = []
+  preserved_from k alone (Ordinary ∷ os) a = preserved_from (k + 1) alone os a
+  preserved_from k alone (Stobj x ∷ os) a = is_well_formed (if alone then a else part_of k a) ∷ []
+
+  abbrev pub preserved_obligation : AbstractFunction → List (Object ℕ) → List Obligation
+  preserved_obligation f [] = []
+  preserved_obligation f (c ∷ cs) =
+      obligation f.name (codes "{PRESERVED}") (implies (and_guard (is_well_formed st) (logic_guard w d f)) c) ∷ []
+
+  abbrev pub export_obligations : AbstractFunction → List Obligation
+  export_obligations f =
+      let outs = (signature w f.exec).outs in
+      obligation f.name (codes "{CORRESPONDENCE}") (implies (hypothesis f) (outputs_correspond outs (logic_call f) (exec_call f)))
+      ∷ (guard_obligation f (exec_guard_of f (definition w f.exec))
+      ++ preserved_obligation f (preserved_from 0 (nat_eq (length outs) 1) outs (logic_call f)))
+
+  abbrev pub all_export_obligations : List AbstractFunction → List Obligation
+  all_export_obligations [] = []
+  all_export_obligations (f ∷ fs) = export_obligations f ++ all_export_obligations fs
+
+  abbrev pub creator_obligations : List Obligation
+  creator_obligations =
+      obligation d.creator.name (codes "{CORRESPONDENCE}") (corresponds (call d.creator.exec []) (call d.creator.logic []))
+      ∷ obligation d.creator.name (codes "{PRESERVED}") (is_well_formed (call d.creator.logic [])) ∷ []
+
+  -- all in order
+  unfoldable pub obligations : List Obligation
+  obligations = creator_obligations ++ all_export_obligations d.exports
+
+-- the first that is too heavy
+abbrev pub too_large : List Obligation → Option Refusal
+too_large [] = None
+too_large (o ∷ os) = if nat_le (weight o.form) max_weight then too_large os else Some (TooLarge o.owner)
