@@ -1,0 +1,25 @@
+//! Laws of books: the program's words, the generated book, and the tests of types.
+#![tactic(auto)]
+
+ghost use Rattle.model_book_laws.specs.BookRows.{BooksAreGenerated};
+ghost use Rattle.model_book_laws.specs.TypeTests.{TestsAreRight};
+ghost use Rattle.model_book_laws.specs.WordRows.{WordsAreRight, word_rows};
+ghost use Rattle.model_eval_rows.specs.Types.{type_rows};
+
+/// Which words are of the program's grammar, and what they give.
+#[tactic(auto, using(crate::proofs::Computed::program_words))]
+pub fn program_words()
+    ensures { WordsAreRight word_rows }
+{}
+
+/// The generated book, written out.
+#[tactic(auto, using(crate::proofs::Computed::generated_books))]
+pub fn generated_books()
+    ensures { BooksAreGenerated }
+{}
+
+/// The test of each type, evaluated at an object, is `NIL` exactly where the object does not meet the type.
+#[tactic(auto, using(crate::proofs::Computed::type_tests))]
+pub fn type_tests()
+    ensures { TestsAreRight type_rows }
+{}
