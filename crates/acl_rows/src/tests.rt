@@ -116,9 +116,9 @@ fn primitives(rt: HostRuntime) -> Result<(), Fail> {
 fn names_of_definitions(rt: HostRuntime) -> Result<(), Fail> {
     gives(
         rt,
-        b"(defstobj car (pc :type integer :initially 0))(defstobj st (nat :type integer :initially 0))(defstobj st (x :type integer :initially 0) (x :type integer :initially 0))(defstobj st (|a b| :type integer :initially 3))(|a b| st)",
+        b"(defstobj car (pc :type integer :initially 0))(defstobj st (nat :type integer :initially 0))(defstobj st (zero :type integer :initially 0))(defstobj st (x :type integer :initially 0) (x :type integer :initially 0))(defstobj st (|a b| :type integer :initially 3))(|a b| st)",
         Status::Errors,
-        b"Refused: BadName CAR\nRefused: NameInUse NATP\nRefused: NameInUse XP\nST\n3\n; 5 commands, 1 calls, 3 errors\n",
+        b"Refused: BadName CAR\nRefused: NameInUse NATP\nRefused: NameInUse ZEROP\nRefused: NameInUse XP\nST\n3\n; 6 commands, 1 calls, 4 errors\n",
     )
 }
 

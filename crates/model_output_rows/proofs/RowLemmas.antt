@@ -72,10 +72,6 @@ name_twice : books.NameTwice
 unfolding common_lisp_text acl2_text common_lisp_symbols acl2_symbols acl2_package opening next_at step token_of command_of run output summary_text digits reserved_lisp reserved_own is_reserved table guard recognizer_guard relation_guard arithmetic_guard listing_guard naming_guard wanted recognized related computed listed named_by applied_to bounded
 name_twice = refl
 
-import_in_use : books.ImportInUse
-unfolding common_lisp_text acl2_text common_lisp_symbols acl2_symbols acl2_package opening next_at step token_of command_of run output summary_text digits reserved_lisp reserved_own is_reserved table guard recognizer_guard relation_guard arithmetic_guard listing_guard naming_guard wanted recognized related computed listed named_by applied_to bounded
-import_in_use = refl
-
 known_name_free : books.KnownNameFree
 unfolding common_lisp_text acl2_text common_lisp_symbols acl2_symbols acl2_package opening next_at step token_of command_of run output summary_text digits reserved_lisp reserved_own is_reserved table guard recognizer_guard relation_guard arithmetic_guard listing_guard naming_guard wanted recognized related computed listed named_by applied_to bounded
 known_name_free = refl
@@ -89,7 +85,7 @@ unfolding common_lisp_text acl2_text common_lisp_symbols acl2_symbols acl2_packa
 other_definitions = refl
 
 pub are_named : books.AreNamed
-are_named = record { bad_names = bad_names; primitive_in_use = primitive_in_use; name_twice = name_twice; import_in_use = import_in_use; known_name_free = known_name_free; bad_name_before_name_in_use = bad_name_before_name_in_use; other_definitions = other_definitions }
+are_named = record { bad_names = bad_names; primitive_in_use = primitive_in_use; name_twice = name_twice; known_name_free = known_name_free; bad_name_before_name_in_use = bad_name_before_name_in_use; other_definitions = other_definitions }
 
 packages : books.Packages
 unfolding common_lisp_text acl2_text common_lisp_symbols acl2_symbols acl2_package opening next_at step token_of command_of run output summary_text digits reserved_lisp reserved_own is_reserved table guard recognizer_guard relation_guard arithmetic_guard listing_guard naming_guard wanted recognized related computed listed named_by applied_to bounded

@@ -72,9 +72,6 @@ PrimitiveInUse = output (book (codes "(defstobj st (nat :type integer :initially
 abbrev pub NameTwice : Type 0
 NameTwice = output (book (codes "(defstobj st (x :type integer :initially 0) (x :type integer :initially 0))" ∷ codes "(defstobj st (stp :type integer :initially 0))" ∷ [])) ≡ written (codes "Refused: NameInUse XP" ∷ codes "Refused: NameInUse STP" ∷ codes "; 2 commands, 0 calls, 2 errors" ∷ []) Errors
 
-abbrev pub ImportInUse : Type 0
-ImportInUse = output (book (codes "(defstobj st (zero :type integer :initially 0))" ∷ [])) ≡ written (codes "Refused: NameInUse ZEROP" ∷ codes "; 1 commands, 0 calls, 1 errors" ∷ []) Errors
-
 abbrev pub KnownNameFree : Type 0
 KnownNameFree = output (book (codes "(defstobj st (xargs :type integer :initially 0))" ∷ codes "(xargs st)" ∷ [])) ≡ written (codes "ST" ∷ codes "0" ∷ codes "; 2 commands, 1 calls, 0 errors" ∷ []) Done
 
@@ -89,7 +86,6 @@ pub record AreNamed : Type 0 where
   pub bad_names : BadNames
   pub primitive_in_use : PrimitiveInUse
   pub name_twice : NameTwice
-  pub import_in_use : ImportInUse
   pub known_name_free : KnownNameFree
   pub bad_name_before_name_in_use : BadNameBeforeNameInUse
   pub other_definitions : OtherDefinitions
