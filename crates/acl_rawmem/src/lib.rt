@@ -2,6 +2,8 @@
 #![tactic(auto)]
 
 mod array;
+mod block;
+mod filling;
 #[cfg(test)]
 mod tests;
 

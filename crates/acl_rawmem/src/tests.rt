@@ -62,3 +62,13 @@ fn holds_nothing_and_much(rt: HostRuntime) -> Result<(), Fail> {
     assert_eq!(rt; sum, 300_007);
     Ok(())
 }
+
+#[test]
+fn refuses_more_than_a_block_may_have(rt: HostRuntime) -> Result<(), Fail> {
+    assert!(rt; RawArray::filled(rt.alloc(), usize::MAX, 1u64).is_err());
+    let mut array = RawArray::filled(rt.alloc(), 2, 1u64)?;
+    assert!(rt; array.resize(usize::MAX, 9).is_err());
+    assert_eq!(rt; array.len(), 2);
+    assert!(rt; array.get(0) == 1 && array.get(1) == 1);
+    Ok(())
+}

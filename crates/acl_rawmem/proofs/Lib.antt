@@ -1,0 +1,4 @@
+pub mod Steps
+pub mod Elements
+pub mod Outcomes
+pub mod Lists
