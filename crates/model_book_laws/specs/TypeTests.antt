@@ -8,7 +8,7 @@ use Rattle.model_eval.specs.Outcomes.{Shown, Ended, Gives, Stops, Unknown}
 use Rattle.model_eval.specs.Scopes.{object_of, single}
 use Rattle.model_eval.specs.Checked.{checked, begun}
 use Rattle.model_eval_rows.specs.Types.{TypeRow}
-use Rattle.model_events.specs.TypeTerms.{type_term}
+use Rattle.model_expansion.specs.TypeTerms.{type_term}
 use Rattle.model_books.specs.Opening.{opening_world}
 
 -- whether a value other than `NIL` is given; None after a stop

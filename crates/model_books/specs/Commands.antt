@@ -15,11 +15,11 @@ use Rattle.model_terms.specs.Faults.{Fault, expression_fault}
 use Rattle.model_eval.specs.Outcomes.{Shown, Stop, Depth, Objects, State, Ended, Gives, Stops, Unknown}
 use Rattle.model_eval.specs.Worlds.{object_layout}
 use Rattle.model_eval.specs.Checked.{checked, begun, live}
-use Rattle.model_events.specs.Forms.{elements, symbol, among, name_of, is_keyword}
-use Rattle.model_events.specs.Faults.{Refusal, BadShape, Expand, Thread, NotSupported}
-use Rattle.model_events.specs.Expansion.{Setting, Progress, Expanded, Makes, Fails, expanded}
-use Rattle.model_events.specs.Answers.{Answer, Grants, Refuses, Halts}
-use Rattle.model_events.specs.Heads.{event_heads, is_skipped, is_unsupported}
+use Rattle.model_expansion.specs.Forms.{elements, symbol, among, name_of, is_keyword}
+use Rattle.model_expansion.specs.Faults.{Refusal, BadShape, Expand, Thread, NotSupported}
+use Rattle.model_expansion.specs.Expansion.{Setting, Progress, Expanded, Makes, Fails, expanded}
+use Rattle.model_stobjs.specs.Answers.{Answer, Grants, Refuses, Halts}
+use Rattle.model_stobjs.specs.Heads.{event_heads, is_skipped, is_unsupported}
 use Rattle.model_events.specs.Events.{Standing, Limits, Said, Admitted, setting, admitted}
 use Rattle.model_books.specs.Opening.{Session}
 

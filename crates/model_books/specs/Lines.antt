@@ -8,9 +8,9 @@ use Rattle.model_terms.specs.declared.rule.Rule.{Rule}
 use Rattle.model_terms.specs.declared.rule.Rule.TheVariants.{S1, S2, S3, S4, S5, S6, S7, S8, S9, S10, S11, S12, S13, S14, S15, S16}
 use Rattle.model_terms.specs.Faults.{Fault}
 use Rattle.model_eval.specs.Outcomes.{Shown, Plain, Stobj, Stop, Guard, Steps, Depth, Range, Large, Symbols}
-use Rattle.model_events.specs.Forms.{list, name_of}
-use Rattle.model_events.specs.Faults.{ExpandFault, MacroArgs, BadShape, MacroStopped, UnknownFunction, Arity, TooNested, Refusal, NameInUse, BadName, DuplicateFormal, BadDeclare, BadType, BadInitial, CongruenceMismatch, UnknownPackage, PackageExists, ImportClash, SymbolLimit, NotSupported, Thread, Expand, FoundationNotConcrete, MissingFunction, SignatureMismatch, GuardNotExecutable, TooLarge}
-use Rattle.model_events.specs.Obligations.{Obligation}
+use Rattle.model_expansion.specs.Forms.{list, name_of}
+use Rattle.model_expansion.specs.Faults.{ExpandFault, MacroArgs, BadShape, MacroStopped, UnknownFunction, Arity, TooNested, Refusal, NameInUse, BadName, DuplicateFormal, BadDeclare, BadType, BadInitial, CongruenceMismatch, UnknownPackage, PackageExists, ImportClash, SymbolLimit, NotSupported, Thread, Expand, FoundationNotConcrete, MissingFunction, SignatureMismatch, GuardNotExecutable, TooLarge}
+use Rattle.model_stobjs.specs.Obligations.{Obligation}
 use Rattle.model_events.specs.Events.{Said, Name, Names, PackageName, Obliged}
 use Rattle.model_books.specs.Opening.{Session}
 use Rattle.model_books.specs.Commands.{Answered, Event, Skipped, Values, Show, Cells, Refused, Stopped}

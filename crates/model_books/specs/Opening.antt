@@ -7,8 +7,8 @@ use Rattle.model_symbols.specs.Opening.{opening}
 use Rattle.model_prims.specs.Rows.{Row, table, exported_symbols, main_symbols}
 use Rattle.model_terms.specs.Worlds.{World, Definition, Primitive, Constant}
 use Rattle.model_eval.specs.Outcomes.{Objects}
-use Rattle.model_events.specs.Words.{exports_word, main_symbols_word}
-use Rattle.model_events.specs.Forms.{list}
+use Rattle.model_expansion.specs.Words.{exports_word, main_symbols_word}
+use Rattle.model_expansion.specs.Forms.{list}
 use Rattle.model_events.specs.Events.{Standing}
 
 -- what commands go by: definitions and packages, the symbols that are known, and the list of each live object by its name

@@ -16,15 +16,15 @@ use Rattle.model_terms.specs.Outputs.{outputs}
 use Rattle.model_eval.specs.Worlds.{layout_within}
 use Rattle.model_eval.specs.Generated.{effect}
 use Rattle.model_eval.specs.Evaluated.{exec_called, called, in_order, all_borrowed, put_back, evaluated}
-use Rattle.model_events.specs.Obligations.{core_object, core_objects, binding_objects, obligations}
-use Rattle.model_events.specs.Heads.{name_in_use}
+use Rattle.model_stobjs.specs.Obligations.{core_object, core_objects, binding_objects, obligations}
+use Rattle.model_stobjs.specs.Heads.{name_in_use}
 use Rattle.model_events.specs.Constants.{constant_read, package_read, current_read}
 use Rattle.model_events.specs.Macros.{written_macro, macro_read}
-use Rattle.model_events.specs.Abstracts.{written_abstract, abstract_read}
-use Rattle.model_events.specs.Objects.{written_object, nesting_within, shape_of, names_made, descriptor_read}
-use Rattle.model_events.specs.Guards.{renamed_core, renamed_cores, with_functions, all_with_functions, binds, any_binds, generated_guard}
-use Rattle.model_events.specs.Expansion.{macro_values, look_at, settled, grown_all, grown}
-use Rattle.model_events.specs.Layers.{made_of}
+use Rattle.model_stobjs.specs.Abstracts.{written_abstract, abstract_read}
+use Rattle.model_stobjs.specs.Objects.{written_object, nesting_within, shape_of, names_made, descriptor_read}
+use Rattle.model_stobjs.specs.Guards.{renamed_core, renamed_cores, with_functions, all_with_functions, binds, any_binds, generated_guard}
+use Rattle.model_expansion.specs.Expansion.{macro_values, look_at, settled, grown_all, grown}
+use Rattle.model_expansion.specs.Layers.{made_of}
 use Rattle.model_events.specs.Events.{admitted}
 use Rattle.model_events.specs.Functions.{written_fault, functions_read}
 use Rattle.model_events.specs.Declarations.{declarations}

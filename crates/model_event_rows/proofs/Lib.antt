@@ -2,6 +2,7 @@ pub mod RowAbstractOutputs
 pub mod RowAbstractRefusals
 pub mod RowArithmeticMacros
 pub mod RowBindingForms
+pub mod RowChildrenRules
 pub mod RowCongruence
 pub mod RowConstants
 pub mod RowCoreShapes
@@ -12,8 +13,10 @@ pub mod RowFormals
 pub mod RowFunctionNames
 pub mod RowFunctionShapes
 pub mod RowHeads
+pub mod RowKeysInOrder
 pub mod RowLimits
 pub mod RowListMacros
+pub mod RowListsAtStops
 pub mod RowLogicalMacros
 pub mod RowMacroRefusals
 pub mod RowMacrosStop
@@ -25,3 +28,4 @@ pub mod RowOtherMacros
 pub mod RowPackages
 pub mod RowRestAndKeys
 pub mod RowTheOfTypes
+pub mod RowThreadRules

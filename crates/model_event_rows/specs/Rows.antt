@@ -1,6 +1,6 @@
 -- Whole books: the program's words, an input, what is written, and the status. Written by tools/rows.py.
 use Rattle.std.specs.Prelude.{◌≡◌, ℕ, List, [], ◌∷◌, ◌++◌, codes}
-use Rattle.acl_base.specs.declared.status.Status.TheVariants.{Errors}
+use Rattle.acl_base.specs.declared.status.Status.TheVariants.{Done, Errors}
 use Rattle.model_books.specs.Output.{output, lines}
 
 -- abstract outputs
@@ -42,6 +42,16 @@ binding_forms_written = lines (codes "(2 . 1)" ∷ codes "5" ∷ codes "7" ∷ c
 
 pub record BindingForms : Type 0 where
   pub is_written : output ([]) binding_forms_input ≡ record { bytes = binding_forms_written; status = Errors }
+
+-- children rules
+abbrev pub children_rules_input : List ℕ
+children_rules_input = lines (codes "(defstobj st (pc :type integer :initially 0))" ∷ codes "(defstobj st2 (pc2 :type integer :initially 0) :congruent-to st)" ∷ codes "(defstobj other (o))" ∷ codes "(defstobj par (kid :type st) (kids :type (array st (2))))" ∷ codes "(kid par)" ∷ codes "(update-kid st par)" ∷ codes "(stobj-let ((st (kid par))) (x) (pc st) x)" ∷ codes "(stobj-let ((st (kid par))) (st) (update-pc 5 st) par)" ∷ codes "(stobj-let ((st (kid par)) (st2 (kid par))) (x) (pc st) x)" ∷ codes "(stobj-let ((st (kidsi 0 par)) (st2 (kidsi 0 par))) (x) 1 x)" ∷ codes "(stobj-let ((st (kidsi 0 par)) (st2 (kidsi 1 par))) (st2 st) (let ((st (update-pc 7 st))) (let ((st2 (update-pc 8 st2))) (mv st2 st))) par)" ∷ codes "(stobj-let ((st (pc par))) (x) 1 x)" ∷ codes "(stobj-let ((other (kid par))) (x) 1 x)" ∷ codes "(stobj-let ((st (kid par))) () 1 2)" ∷ codes "(stobj-let ((st (kid par))) (st) st 5)" ∷ codes "(stobj-let ((st (kidsi 'a par))) (x) 1 x)" ∷ codes "(stobj-let ((st (kidsi 2 par))) (x) 1 x)" ∷ codes "(stobj-let ((st (kid par))) (x) (kids-length par) x)" ∷ codes "(stobj-let ((st (kid par))) (x) 1 (pc st))" ∷ codes "(with-local-stobj st (mv-let (x st) (mv (pc st) st) x))" ∷ codes "(with-local-stobj st (mv-let (x y) (mv 1 2) x))" ∷ codes "(with-local-stobj foo (mv-let (x foo) (mv 1 2) x))" ∷ codes "(with-local-stobj st (mv-let (x st) (mv 1 2) x))" ∷ codes "(with-local-stobj st (mv-let (x st) (mv (pc st) st) (pc st)))" ∷ codes "(:show par)" ∷ codes "(:show st)" ∷ [])
+
+abbrev pub children_rules_written : List ℕ
+children_rules_written = lines (codes "ST" ∷ codes "ST2" ∷ codes "OTHER" ∷ codes "PAR" ∷ codes "Refused: S12 at ()" ∷ codes "Refused: S12 at ()" ∷ codes "0" ∷ codes "<par>" ∷ codes "Refused: S13 at ()" ∷ codes "Refused: S13 at ()" ∷ codes "<par>" ∷ codes "Refused: S13 at ()" ∷ codes "Refused: S13 at ()" ∷ codes "Refused: S13 at ()" ∷ codes "Refused: S13 at ()" ∷ codes "Refused: S13 at ()" ∷ codes "Guard violation: (KIDSI 2 <par>)" ∷ codes "Refused: S1 at (0 0)" ∷ codes "Refused: S1 at (1 0)" ∷ codes "0" ∷ codes "Refused: S14 at ()" ∷ codes "Refused: S14 at ()" ∷ codes "Refused: S14 at ()" ∷ codes "Refused: S1 at (1 0)" ∷ codes "((5) ((7) (8)))" ∷ codes "(0)" ∷ codes "; 26 commands, 14 calls, 16 errors" ∷ [])
+
+pub record ChildrenRules : Type 0 where
+  pub is_written : output ([]) children_rules_input ≡ record { bytes = children_rules_written; status = Errors }
 
 -- congruence
 abbrev pub congruence_input : List ℕ
@@ -143,6 +153,16 @@ heads_written = lines (codes "Refused: BadShape :SHOW" ∷ codes "Refused: BadSh
 pub record Heads : Type 0 where
   pub is_written : output ([]) heads_input ≡ record { bytes = heads_written; status = Errors }
 
+-- keys in order
+abbrev pub keys_in_order_input : List ℕ
+keys_in_order_input = lines (codes "(defstobj st (h :type (hash-table equal)))" ∷ codes "(h-put 'b 1 st)" ∷ codes "(h-put 'a 2 st)" ∷ codes "(h-put 'b 3 st)" ∷ codes "(h-put 5 4 st)" ∷ codes "(h-put \"s\" 5 st)" ∷ codes "(h-put '(1) 6 st)" ∷ codes "(h-put -5 7 st)" ∷ codes "(:show st)" ∷ codes "(h-count st)" ∷ codes "(:cells)" ∷ codes "(h-rem 'b st)" ∷ codes "(h-get 'b st)" ∷ codes "(h-boundp 'b st)" ∷ codes "(h-count st)" ∷ codes "(intern-in-package-of-symbol \"New\" 'st)" ∷ [])
+
+abbrev pub keys_in_order_written : List ℕ
+keys_in_order_written = lines (codes "ST" ∷ codes "<st>" ∷ codes "<st>" ∷ codes "<st>" ∷ codes "<st>" ∷ codes "<st>" ∷ codes "<st>" ∷ codes "<st>" ∷ codes "(((-5 . 7) (5 . 4) (A . 2) (B . 3) (\"s\" . 5) ((1) . 6)))" ∷ codes "6" ∷ codes "3" ∷ codes "<st>" ∷ codes "NIL" ∷ codes "NIL" ∷ codes "5" ∷ codes "|New|" ∷ codes "; 16 commands, 13 calls, 0 errors" ∷ [])
+
+pub record KeysInOrder : Type 0 where
+  pub is_written : output ([]) keys_in_order_input ≡ record { bytes = keys_in_order_written; status = Done }
+
 -- limits
 abbrev pub limits_input : List ℕ
 limits_input = lines (codes "(car (cdr '(1 2)))" ∷ codes "(car (cdr (cdr '(1 2 3))))" ∷ codes "(car (cdr (cdr (cdr '(1 2 3 4)))))" ∷ codes "(cons 1 (car (cdr (cdr '(1 2 3)))))" ∷ codes "(if (car '(nil)) 1 (cons 1 2))" ∷ codes "(defun f (x) (cons x x))" ∷ codes "(cons 1 (f 2))" ∷ codes "(cons 1 (cons 1 (f 2)))" ∷ codes "(defmacro m (x) (car (cdr (cdr x))))" ∷ codes "(list 1 (m (1 2 3)))" ∷ [])
@@ -162,6 +182,16 @@ list_macros_written = lines (codes "NIL" ∷ codes "(1 2)" ∷ codes "(1 . 2)" �
 
 pub record ListMacros : Type 0 where
   pub is_written : output ([]) list_macros_input ≡ record { bytes = list_macros_written; status = Errors }
+
+-- lists at stops
+abbrev pub lists_at_stops_input : List ℕ
+lists_at_stops_input = lines (codes "(defstobj kid (v :type integer :initially 0))" ∷ codes "(defstobj par (k :type kid) (n :type integer :initially 0))" ∷ codes "(defun bump (kid) (declare (xargs :stobjs kid)) (update-v 7 kid))" ∷ codes "(stobj-let ((kid (k par))) (kid) (bump kid) par)" ∷ codes "(:show par)" ∷ codes "(stobj-let ((kid (k par))) (kid) (let ((kid (update-v 1 kid))) (let ((kid (update-v 2 kid))) (let ((kid (update-v 3 kid))) (update-v 4 kid)))) par)" ∷ codes "(:show par)" ∷ codes "(stobj-let ((kid (k par))) (kid) (let ((kid (update-v 10 kid))) (let ((kid (update-v 11 kid))) (let ((kid (update-v 12 kid))) (let ((kid (update-v 13 kid))) (update-v 14 kid))))) par)" ∷ codes "(:show par)" ∷ codes "(let ((x (car (cdr (cdr (cdr (cdr '(1 2 3 4 5)))))))) (stobj-let ((kid (k par))) (kid) (update-v x kid) par))" ∷ codes "(:show par)" ∷ codes "(stobj-let ((kid (k par))) (kid) (let ((kid (update-v 20 kid))) (update-v 'a kid)) par)" ∷ codes "(:show par)" ∷ codes "(defun two (par) (declare (xargs :stobjs par)) (let ((par (update-n 5 par))) (update-n 'a par)))" ∷ codes "(two par)" ∷ codes "(:show par)" ∷ codes "(with-local-stobj kid (mv-let (x kid) (let ((kid (update-v 5 kid))) (mv (car (v kid)) kid)) x))" ∷ codes "(:show kid)" ∷ [])
+
+abbrev pub lists_at_stops_written : List ℕ
+lists_at_stops_written = lines (codes "KID" ∷ codes "PAR" ∷ codes "BUMP" ∷ codes "<par>" ∷ codes "((7) 0)" ∷ codes "Step limit" ∷ codes "((4) 0)" ∷ codes "Step limit" ∷ codes "((13) 0)" ∷ codes "Step limit" ∷ codes "((13) 0)" ∷ codes "Guard violation: (UPDATE-V A <kid>)" ∷ codes "((20) 0)" ∷ codes "TWO" ∷ codes "Guard violation: (UPDATE-N A <par>)" ∷ codes "((20) 5)" ∷ codes "Guard violation: (CAR 5)" ∷ codes "(0)" ∷ codes "; 18 commands, 29 calls, 6 errors" ∷ [])
+
+pub record ListsAtStops : Type 0 where
+  pub is_written : output (codes "--steps=5" ∷ []) lists_at_stops_input ≡ record { bytes = lists_at_stops_written; status = Errors }
 
 -- logical macros
 abbrev pub logical_macros_input : List ℕ
@@ -272,3 +302,13 @@ the_of_types_written = lines (codes "5" ∷ codes "Guard violation: (THE-CHECK N
 
 pub record TheOfTypes : Type 0 where
   pub is_written : output ([]) the_of_types_input ≡ record { bytes = the_of_types_written; status = Errors }
+
+-- thread rules
+abbrev pub thread_rules_input : List ℕ
+thread_rules_input = lines (codes "(defstobj st (pc :type integer :initially 0))" ∷ codes "(defstobj st2 (pc2 :type integer :initially 0) :congruent-to st)" ∷ codes "(defstobj other (o))" ∷ codes "(pc other)" ∷ codes "(update-pc 1 (update-pc 2 st))" ∷ codes "(pc 5)" ∷ codes "(defun both (st st2) (declare (xargs :stobjs (st st2))) (mv (pc st) (pc2 st2)))" ∷ codes "(both st st)" ∷ codes "(both x x)" ∷ codes "(cons st 1)" ∷ codes "(if st 1 2)" ∷ codes "(let ((st (update-pc 1 st)) (x 1)) st)" ∷ codes "(let ((st (pc st))) st)" ∷ codes "(let ((st (update-pc 1 st2))) st)" ∷ codes "(let ((st (update-pc 1 st))) 5)" ∷ codes "(mv-let (x st) (mv 1 st) x)" ∷ codes "(if 1 st 2)" ∷ codes "(must-be-equal st 1)" ∷ codes "(cons (both st st2) 1)" ∷ codes "(let ((x (update-pc 1 st))) x)" ∷ codes "(mv st st)" ∷ codes "(cons (mv 1 2) 3)" ∷ codes "(mv-let (x y) (pc st) x)" ∷ codes "(mv st2 st)" ∷ codes "(defun g (st) st)" ∷ codes "(defun g (x) (declare (xargs :stobjs st)) x)" ∷ codes "(mutual-recursion (defun g1 (x) (g2 x)) (defun g2 (st) 1))" ∷ codes "(cons y 1)" ∷ codes "(defun g (x) (declare (xargs :guard y)) x)" ∷ codes "(defun g (x) y)" ∷ codes "(defun g () st)" ∷ codes "(mutual-recursion (defun g1 (x) (g2 x)) (defun g2 (x) (cons x y)))" ∷ codes "(create-st)" ∷ codes "(defmacro m (st) 1)" ∷ codes "(defmacro m (x) st)" ∷ codes "(defconst *c* st)" ∷ codes "(defmacro m (x) (pc st))" ∷ codes "(defun-nx nx (x) (mv x st))" ∷ codes "(defun-nx nx (x) (nth 0 x))" ∷ codes "(nx 5)" ∷ codes "(defun g (x) (cons (nx x) 1))" ∷ codes "(defun-nx ny (x) (with-local-stobj st (mv-let (y st) (mv 1 st) y)))" ∷ [])
+
+abbrev pub thread_rules_written : List ℕ
+thread_rules_written = lines (codes "ST" ∷ codes "ST2" ∷ codes "OTHER" ∷ codes "Refused: S1 at (0)" ∷ codes "Refused: S1 at (1)" ∷ codes "Refused: S1 at (0)" ∷ codes "BOTH" ∷ codes "Refused: S2 at ()" ∷ codes "Refused: S2 at ()" ∷ codes "Refused: S3 at (0)" ∷ codes "Refused: S3 at (0)" ∷ codes "Refused: S4 at ()" ∷ codes "Refused: S5 at ()" ∷ codes "Refused: S5 at ()" ∷ codes "Refused: S6 at ()" ∷ codes "Refused: S6 at ()" ∷ codes "Refused: S7 at ()" ∷ codes "Refused: S7 at ()" ∷ codes "Refused: S8 at (0)" ∷ codes "Refused: S8 at (0)" ∷ codes "Refused: S9 at ()" ∷ codes "Refused: S9 at (0)" ∷ codes "Refused: S9 at ()" ∷ codes "(<st2> <st>)" ∷ codes "Refused: S10 at (0)" ∷ codes "Refused: S10 at (0)" ∷ codes "Refused: S10 at (1)" ∷ codes "Refused: S11 at (0)" ∷ codes "Refused: S11 at (0 0)" ∷ codes "Refused: S11 at (0 1)" ∷ codes "Refused: S11 at (0 1)" ∷ codes "Refused: S11 at (1 1 1)" ∷ codes "Refused: S12 at ()" ∷ codes "Refused: S15 at (0)" ∷ codes "Refused: S15 at (0 1)" ∷ codes "Refused: S15 at ()" ∷ codes "Refused: S1 at (0 1 0)" ∷ codes "Refused: S11 at (0 1 1)" ∷ codes "NX" ∷ codes "Refused: S16 at ()" ∷ codes "Refused: S16 at (0 1 0)" ∷ codes "Refused: S16 at (0 1)" ∷ codes "; 42 commands, 0 calls, 36 errors" ∷ [])
+
+pub record ThreadRules : Type 0 where
+  pub is_written : output ([]) thread_rules_input ≡ record { bytes = thread_rules_written; status = Errors }

@@ -2,7 +2,7 @@
 //! tools/rows.py from the files in rows/.
 #![tactic(auto)]
 
-ghost use Rattle.model_event_rows.specs.Rows.{AbstractOutputs, AbstractRefusals, ArithmeticMacros, BindingForms, Congruence, Constants, CoreShapes, CountsAtRefusals, Declarations, DeclaredTypes, Formals, FunctionNames, FunctionShapes, Heads, Limits, ListMacros, LogicalMacros, MacroRefusals, MacrosStop, ObjectFunctions, ObjectRefusals, ObjectShapes, OptionalFormals, OtherMacros, Packages, RestAndKeys, TheOfTypes};
+ghost use Rattle.model_event_rows.specs.Rows.{AbstractOutputs, AbstractRefusals, ArithmeticMacros, BindingForms, ChildrenRules, Congruence, Constants, CoreShapes, CountsAtRefusals, Declarations, DeclaredTypes, Formals, FunctionNames, FunctionShapes, Heads, KeysInOrder, Limits, ListMacros, ListsAtStops, LogicalMacros, MacroRefusals, MacrosStop, ObjectFunctions, ObjectRefusals, ObjectShapes, OptionalFormals, OtherMacros, Packages, RestAndKeys, TheOfTypes, ThreadRules};
 
 /// The row `abstract_outputs`.
 #[tactic(auto, using(crate::proofs::RowAbstractOutputs::is_computed))]
@@ -26,6 +26,12 @@ pub fn arithmetic_macros()
 #[tactic(auto, using(crate::proofs::RowBindingForms::is_computed))]
 pub fn binding_forms()
     ensures { BindingForms }
+{}
+
+/// The row `children_rules`.
+#[tactic(auto, using(crate::proofs::RowChildrenRules::is_computed))]
+pub fn children_rules()
+    ensures { ChildrenRules }
 {}
 
 /// The row `congruence`.
@@ -88,6 +94,12 @@ pub fn heads()
     ensures { Heads }
 {}
 
+/// The row `keys_in_order`.
+#[tactic(auto, using(crate::proofs::RowKeysInOrder::is_computed))]
+pub fn keys_in_order()
+    ensures { KeysInOrder }
+{}
+
 /// The row `limits`.
 #[tactic(auto, using(crate::proofs::RowLimits::is_computed))]
 pub fn limits()
@@ -98,6 +110,12 @@ pub fn limits()
 #[tactic(auto, using(crate::proofs::RowListMacros::is_computed))]
 pub fn list_macros()
     ensures { ListMacros }
+{}
+
+/// The row `lists_at_stops`.
+#[tactic(auto, using(crate::proofs::RowListsAtStops::is_computed))]
+pub fn lists_at_stops()
+    ensures { ListsAtStops }
 {}
 
 /// The row `logical_macros`.
@@ -164,4 +182,10 @@ pub fn rest_and_keys()
 #[tactic(auto, using(crate::proofs::RowTheOfTypes::is_computed))]
 pub fn the_of_types()
     ensures { TheOfTypes }
+{}
+
+/// The row `thread_rules`.
+#[tactic(auto, using(crate::proofs::RowThreadRules::is_computed))]
+pub fn thread_rules()
+    ensures { ThreadRules }
 {}

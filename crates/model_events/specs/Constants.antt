@@ -12,12 +12,12 @@ use Rattle.model_terms.specs.Faults.{constant_fault}
 use Rattle.model_eval.specs.Outcomes.{State, Ended, Gives, Stops, Unknown, Depth}
 use Rattle.model_eval.specs.Scopes.{single, object_of}
 use Rattle.model_eval.specs.Checked.{checked, begun}
-use Rattle.model_events.specs.Words.{defconst_word, defpkg_word, in_package_word}
-use Rattle.model_events.specs.Forms.{elements, each_of, symbol, text, has_stars}
-use Rattle.model_events.specs.Faults.{Refusal, BadShape, Expand, BadName, Thread, UnknownPackage, PackageExists, ImportClash}
-use Rattle.model_events.specs.Expansion.{Setting, Progress, expanded}
-use Rattle.model_events.specs.Answers.{Answer, Grants, Refuses, Halts, unless, needing, expanding}
-use Rattle.model_events.specs.Heads.{name_in_use}
+use Rattle.model_expansion.specs.Words.{defconst_word, defpkg_word, in_package_word}
+use Rattle.model_expansion.specs.Forms.{elements, each_of, symbol, text, has_stars}
+use Rattle.model_expansion.specs.Faults.{Refusal, BadShape, Expand, BadName, Thread, UnknownPackage, PackageExists, ImportClash}
+use Rattle.model_expansion.specs.Expansion.{Setting, Progress, expanded}
+use Rattle.model_stobjs.specs.Answers.{Answer, Grants, Refuses, Halts, unless, needing, expanding}
+use Rattle.model_stobjs.specs.Heads.{name_in_use}
 
 -- ---- values
 

@@ -5,12 +5,12 @@ use Rattle.model_objects.specs.Object.{Object, Integer, Symbol, Text, Pair}
 use Rattle.model_symbols.specs.Symbols.{QualifiedName}
 use Rattle.model_symbols.specs.Opening.{truth, nil}
 use Rattle.model_terms.specs.Cores.{Core, Var}
-use Rattle.model_events.specs.Words.{declare_word, xargs_word, type_word, ignore_word, ignorable_word, optimize_word}
-use Rattle.model_events.specs.Forms.{elements, each, each_of, is, symbol, among, is_key, is_keyword_object, variable_name}
-use Rattle.model_events.specs.TypeTerms.{declared_test}
-use Rattle.model_events.specs.Faults.{Refusal, BadName, DuplicateFormal}
-use Rattle.model_events.specs.Layers.{GuardItem, Holds, Meets}
-use Rattle.model_events.specs.Answers.{first_given}
+use Rattle.model_expansion.specs.Words.{declare_word, xargs_word, type_word, ignore_word, ignorable_word, optimize_word}
+use Rattle.model_expansion.specs.Forms.{elements, each, each_of, is, symbol, among, is_key, is_keyword_object, variable_name}
+use Rattle.model_expansion.specs.TypeTerms.{declared_test}
+use Rattle.model_expansion.specs.Faults.{Refusal, BadName, DuplicateFormal}
+use Rattle.model_expansion.specs.Layers.{GuardItem, Holds, Meets}
+use Rattle.model_stobjs.specs.Answers.{first_given}
 
 -- ---- strings and declarations before a body
 

@@ -3,16 +3,16 @@ use Rattle.std.specs.Prelude.{ℕ, List, [], ◌∷◌, ◌++◌, map, Option, S
 use Rattle.model_objects.specs.Object.{Object}
 use Rattle.model_symbols.specs.Symbols.{Package, package_at}
 use Rattle.model_terms.specs.Worlds.{World, Definition, Descriptor, AbstractDescriptor, name_of}
-use Rattle.model_events.specs.Words.{in_package_word, defpkg_word, defconst_word, defmacro_word, mutual_recursion_word, defstobj_word, defabsstobj_word}
-use Rattle.model_events.specs.Expansion.{Setting, Progress}
-use Rattle.model_events.specs.Answers.{Answer, Grants, unless, then_grant}
-use Rattle.model_events.specs.Objects.{descriptor_read}
-use Rattle.model_events.specs.Entries.{object_entries}
+use Rattle.model_expansion.specs.Words.{in_package_word, defpkg_word, defconst_word, defmacro_word, mutual_recursion_word, defstobj_word, defabsstobj_word}
+use Rattle.model_expansion.specs.Expansion.{Setting, Progress}
+use Rattle.model_stobjs.specs.Answers.{Answer, Grants, unless, then_grant}
+use Rattle.model_stobjs.specs.Objects.{descriptor_read}
+use Rattle.model_stobjs.specs.Entries.{object_entries}
 use Rattle.model_events.specs.Functions.{functions_read}
 use Rattle.model_events.specs.Macros.{macro_read}
 use Rattle.model_events.specs.Constants.{constant_read, package_read, current_read}
-use Rattle.model_events.specs.Abstracts.{abstract_read, abstract_entries}
-use Rattle.model_events.specs.Obligations.{Obligation, obligations, too_large}
+use Rattle.model_stobjs.specs.Abstracts.{abstract_read, abstract_entries}
+use Rattle.model_stobjs.specs.Obligations.{Obligation, obligations, too_large}
 
 -- definitions, packages, and the number of the current package
 pub record Standing : Type 0 where

@@ -10,13 +10,13 @@ use Rattle.model_terms.specs.Cores.{Core}
 use Rattle.model_terms.specs.Worlds.{World, Out, Ordinary, Signature, Function, Definition, Defined, Named, Signed}
 use Rattle.model_terms.specs.Rounds.{Member, clique}
 use Rattle.model_terms.specs.Faults.{Fault, clique_fault}
-use Rattle.model_events.specs.Words.{defun_word, defund_word, defun_nx_word, mutual_recursion_word}
-use Rattle.model_events.specs.Forms.{elements, each, is, symbol}
-use Rattle.model_events.specs.Faults.{Refusal, BadShape, Expand, BadDeclare, Thread}
-use Rattle.model_events.specs.Layers.{GuardItem}
-use Rattle.model_events.specs.Expansion.{Setting, Progress, Expanded, Makes, then_make, expanded, expanded_guard}
-use Rattle.model_events.specs.Answers.{Answer, Grants, unless, needing, expanding, first_given}
-use Rattle.model_events.specs.Heads.{name_in_use, bad_name}
+use Rattle.model_expansion.specs.Words.{defun_word, defund_word, defun_nx_word, mutual_recursion_word}
+use Rattle.model_expansion.specs.Forms.{elements, each, is, symbol}
+use Rattle.model_expansion.specs.Faults.{Refusal, BadShape, Expand, BadDeclare, Thread}
+use Rattle.model_expansion.specs.Layers.{GuardItem}
+use Rattle.model_expansion.specs.Expansion.{Setting, Progress, Expanded, Makes, then_make, expanded, expanded_guard}
+use Rattle.model_stobjs.specs.Answers.{Answer, Grants, unless, needing, expanding, first_given}
+use Rattle.model_stobjs.specs.Heads.{name_in_use, bad_name}
 use Rattle.model_events.specs.Declarations.{items_and_body, formals_of, formals_fault, Declared, declarations}
 
 -- ---- as it is written

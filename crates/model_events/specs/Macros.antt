@@ -8,13 +8,13 @@ use Rattle.model_symbols.specs.Opening.{nil, quote}
 use Rattle.model_terms.specs.Cores.{Core}
 use Rattle.model_terms.specs.Worlds.{World, Definition, Macro, OptionalFormal, MacroFormals}
 use Rattle.model_terms.specs.Faults.{macro_fault}
-use Rattle.model_events.specs.Words.{optional_word, rest_mark_word, body_word, key_word, defmacro_word}
-use Rattle.model_events.specs.Forms.{elements, each, is, symbol}
-use Rattle.model_events.specs.Faults.{Refusal, BadShape, Expand, BadDeclare, Thread}
-use Rattle.model_events.specs.Expansion.{Setting, Progress, expanded}
-use Rattle.model_events.specs.Answers.{Answer, Grants, unless, needing, expanding}
-use Rattle.model_events.specs.Heads.{name_in_use, bad_name}
-use Rattle.model_events.specs.Objects.{before_first, from_first}
+use Rattle.model_expansion.specs.Words.{optional_word, rest_mark_word, body_word, key_word, defmacro_word}
+use Rattle.model_expansion.specs.Forms.{elements, each, is, symbol}
+use Rattle.model_expansion.specs.Faults.{Refusal, BadShape, Expand, BadDeclare, Thread}
+use Rattle.model_expansion.specs.Expansion.{Setting, Progress, expanded}
+use Rattle.model_stobjs.specs.Answers.{Answer, Grants, unless, needing, expanding}
+use Rattle.model_stobjs.specs.Heads.{name_in_use, bad_name}
+use Rattle.model_stobjs.specs.Objects.{before_first, from_first}
 use Rattle.model_events.specs.Declarations.{items_and_body, formals_of, formals_fault, declarations}
 
 -- ---- as it is written

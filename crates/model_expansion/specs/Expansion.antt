@@ -14,10 +14,10 @@ use Rattle.model_terms.specs.Faults.{formal_names}
 use Rattle.model_eval.specs.Outcomes.{Shown, Stop, Steps, Depth, State, Ended, Gives, Stops, Unknown}
 use Rattle.model_eval.specs.Scopes.{bound, plain, single, object_of}
 use Rattle.model_eval.specs.Checked.{checked, begun}
-use Rattle.model_events.specs.Forms.{elements, list, name_of, is_key, is_self_evaluating}
-use Rattle.model_events.specs.TypeTerms.{true_core, false_core, depth_of}
-use Rattle.model_events.specs.Faults.{ExpandFault, MacroArgs, BadShape, MacroStopped, UnknownFunction, Arity, TooNested}
-use Rattle.model_events.specs.Layers.{Row, core_row, macro_row, Kind, IfNode, LetNode, MvNode, MvLetNode, StobjLetNode, WithLocalNode, MustBeEqualNode, CallNode, GuardItem, Holds, Meets, Part, Form, Ready, Rest, Guard, Found, Leaf, Node, Made, Again, Stays, leaf, if_made, call_made, false_part, made_of}
+use Rattle.model_expansion.specs.Forms.{elements, list, name_of, is_key, is_self_evaluating}
+use Rattle.model_expansion.specs.TypeTerms.{true_core, false_core, depth_of}
+use Rattle.model_expansion.specs.Faults.{ExpandFault, MacroArgs, BadShape, MacroStopped, UnknownFunction, Arity, TooNested}
+use Rattle.model_expansion.specs.Layers.{Row, core_row, macro_row, Kind, IfNode, LetNode, MvNode, MvLetNode, StobjLetNode, WithLocalNode, MustBeEqualNode, CallNode, GuardItem, Holds, Meets, Part, Form, Ready, Rest, Guard, Found, Leaf, Node, Made, Again, Stays, leaf, if_made, call_made, false_part, made_of}
 
 -- how deep a core form may be
 abbrev pub deepest_core : ℕ

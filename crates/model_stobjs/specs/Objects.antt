@@ -12,14 +12,14 @@ use Rattle.model_prims.specs.Applied.{package_called, number_then}
 use Rattle.model_lists.specs.Types.{ValueType, meets}
 use Rattle.model_terms.specs.Worlds.{World, Shape, Scalar, Array, Hash, Child, Children, Field, Descriptor, Definition, Constant, definition}
 use Rattle.model_terms.specs.Children.{descriptor_of}
-use Rattle.model_events.specs.Words.{array_word, hash_table_word, eq_word, eql_word, equal_word, defstobj_word}
-use Rattle.model_events.specs.Forms.{elements, each, each_of, is, symbol, name_of, home_of, is_keyword_object}
-use Rattle.model_events.specs.TypeTerms.{accepted_type}
-use Rattle.model_events.specs.Faults.{Refusal, BadShape, Expand, BadType, BadInitial, SymbolLimit, CongruenceMismatch}
-use Rattle.model_events.specs.Expansion.{Progress}
-use Rattle.model_events.specs.Answers.{Answer, Grants, Refuses, unless, needing, then_grant, first_given}
-use Rattle.model_events.specs.Heads.{name_in_use, bad_name}
-use Rattle.model_events.specs.Keys.{Keyed, key_value, keys_in}
+use Rattle.model_expansion.specs.Words.{array_word, hash_table_word, eq_word, eql_word, equal_word, defstobj_word}
+use Rattle.model_expansion.specs.Forms.{elements, each, each_of, is, symbol, name_of, home_of, is_keyword_object}
+use Rattle.model_expansion.specs.TypeTerms.{accepted_type}
+use Rattle.model_expansion.specs.Faults.{Refusal, BadShape, Expand, BadType, BadInitial, SymbolLimit, CongruenceMismatch}
+use Rattle.model_expansion.specs.Expansion.{Progress}
+use Rattle.model_stobjs.specs.Answers.{Answer, Grants, Refuses, unless, needing, then_grant, first_given}
+use Rattle.model_stobjs.specs.Heads.{name_in_use, bad_name}
+use Rattle.model_stobjs.specs.Keys.{Keyed, key_value, keys_in}
 
 -- ---- as it is written
 

@@ -4,11 +4,11 @@ use Rattle.std.specs.List.{find}
 use Rattle.model_objects.specs.Object.{Object, Integer, Symbol, Text, Pair}
 use Rattle.model_symbols.specs.Symbols.{QualifiedName}
 use Rattle.model_terms.specs.Worlds.{World, definition}
-use Rattle.model_events.specs.Words.{in_package_word, defpkg_word, defconst_word, defmacro_word, defun_word, defund_word, defun_nx_word, mutual_recursion_word, defstobj_word, defabsstobj_word, defthm_word, last_skipped_word, include_book_word, cw_word, progn_word}
-use Rattle.model_events.specs.Forms.{among, may_be_defined}
-use Rattle.model_events.specs.Faults.{Refusal, NameInUse, BadName}
-use Rattle.model_events.specs.Layers.{core_row, macro_row}
-use Rattle.model_events.specs.Answers.{first_given}
+use Rattle.model_expansion.specs.Words.{in_package_word, defpkg_word, defconst_word, defmacro_word, defun_word, defund_word, defun_nx_word, mutual_recursion_word, defstobj_word, defabsstobj_word, defthm_word, last_skipped_word, include_book_word, cw_word, progn_word}
+use Rattle.model_expansion.specs.Forms.{among, may_be_defined}
+use Rattle.model_expansion.specs.Faults.{Refusal, NameInUse, BadName}
+use Rattle.model_expansion.specs.Layers.{core_row, macro_row}
+use Rattle.model_stobjs.specs.Answers.{first_given}
 
 abbrev pub event_heads : List ℕ
 event_heads =

@@ -1,8 +1,8 @@
 -- What an event ends with, and how refusals come in order.
 use Rattle.std.specs.Prelude.{ℕ, List, [], ◌∷◌, Bool, true, false, Option, Some, None}
 use Rattle.model_eval.specs.Outcomes.{Stop}
-use Rattle.model_events.specs.Faults.{Refusal, Expand}
-use Rattle.model_events.specs.Expansion.{Progress, Expanded, Makes, Fails}
+use Rattle.model_expansion.specs.Faults.{Refusal, Expand}
+use Rattle.model_expansion.specs.Expansion.{Progress, Expanded, Makes, Fails}
 
 pub data Answer (A : Type 0) : Type 0 where
   Grants : A → Progress → Answer A

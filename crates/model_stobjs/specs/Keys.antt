@@ -4,7 +4,7 @@ use Rattle.std.specs.List.{list_any, find}
 use Rattle.std.specs.Str.{bytes_eq}
 use Rattle.model_objects.specs.Object.{Object}
 use Rattle.model_symbols.specs.Symbols.{QualifiedName}
-use Rattle.model_events.specs.Forms.{is_key}
+use Rattle.model_expansion.specs.Forms.{is_key}
 
 -- the name of a key, and its value
 abbrev pub Keyed : Type 0

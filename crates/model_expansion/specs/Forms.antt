@@ -5,7 +5,7 @@ use Rattle.std.specs.Str.{bytes_eq}
 use Rattle.model_objects.specs.Object.{Object, Integer, Symbol, Text, Pair, list_onto}
 use Rattle.model_symbols.specs.Symbols.{QualifiedName, symbol_at}
 use Rattle.model_symbols.specs.Opening.{nil, truth, keyword, hidden, common_lisp}
-use Rattle.model_events.specs.Words.{hidden_variable_word}
+use Rattle.model_expansion.specs.Words.{hidden_variable_word}
 
 -- ---- lists
 

@@ -13,10 +13,10 @@ use Rattle.model_terms.specs.Worlds.{World, Shape, Scalar, Array, Hash, Child, C
 use Rattle.model_terms.specs.Children.{field_of}
 use Rattle.model_terms.specs.declared.role.Role.{Role}
 use Rattle.model_terms.specs.declared.role.Role.TheVariants as role
-use Rattle.model_events.specs.Words.{integerp_word, symbolp_word, below_word}
-use Rattle.model_events.specs.Forms.{among, is}
-use Rattle.model_events.specs.TypeTerms.{true_core, false_core, call_core, and_core, not_below, integer_test, type_term}
-use Rattle.model_events.specs.Objects.{most_elements, number_at}
+use Rattle.model_expansion.specs.Words.{integerp_word, symbolp_word, below_word}
+use Rattle.model_expansion.specs.Forms.{among, is}
+use Rattle.model_expansion.specs.TypeTerms.{true_core, false_core, call_core, and_core, not_below, integer_test, type_term}
+use Rattle.model_stobjs.specs.Objects.{most_elements, number_at}
 
 -- ---- names in core forms
 

@@ -6,7 +6,7 @@ use Rattle.model_prims.specs.declared.prim.Recognizer.{Recognizer}
 use Rattle.model_prims.specs.declared.prim.Recognizer.TheVariants as recognizer
 use Rattle.model_lists.specs.Types.{ValueType, Anything, Nothing, Integers, Recognized, OneOf, Either, Both, Other, type_of, null_word, cons_word, atom_word, not_word, or_word, and_word, Reading, word_type, only_element}
 use Rattle.model_terms.specs.Cores.{Core, Cores, Var, Const, If, Let, Mv, MvLet, StobjLet, WithLocal, MustBeEqual, Call, none, more, cores}
-use Rattle.model_events.specs.Words.{symbolp_word, stringp_word, integerp_word, below_word, member_equal_word, satisfies_word, booleanp_word}
+use Rattle.model_expansion.specs.Words.{symbolp_word, stringp_word, integerp_word, below_word, member_equal_word, satisfies_word, booleanp_word}
 
 -- ---- core forms that tests are made of
 

@@ -9,12 +9,12 @@ use Rattle.model_lists.specs.Types.{and_word}
 use Rattle.model_terms.specs.Cores.{Core, Cores, none, more, Var, Const, If, Let, Mv, MvLet, StobjLet, WithLocal, MustBeEqual, Call, cores}
 use Rattle.model_terms.specs.Worlds.{World, Out, Ordinary, Stobj, Signature, Function, AbstractFunction, AbstractDescriptor, GeneratedFunction, Definition, Defined, Generated, definition}
 use Rattle.model_terms.specs.Nested.{is_object}
-use Rattle.model_events.specs.Words.{if_word, let_word, mv_word, mv_let_word, stobj_let_word, with_local_word, must_be_equal_word, implies_word, equal_word, nth_word}
-use Rattle.model_events.specs.Forms.{list, name_of}
-use Rattle.model_events.specs.TypeTerms.{true_core}
-use Rattle.model_events.specs.Faults.{Refusal, TooLarge}
-use Rattle.model_events.specs.Guards.{renamed_core, generated_guard}
-use Rattle.model_events.specs.Abstracts.{signature, formals, with_object_named, export_formals, logic_guard}
+use Rattle.model_expansion.specs.Words.{if_word, let_word, mv_word, mv_let_word, stobj_let_word, with_local_word, must_be_equal_word, implies_word, equal_word, nth_word}
+use Rattle.model_expansion.specs.Forms.{list, name_of}
+use Rattle.model_expansion.specs.TypeTerms.{true_core}
+use Rattle.model_expansion.specs.Faults.{Refusal, TooLarge}
+use Rattle.model_stobjs.specs.Guards.{renamed_core, generated_guard}
+use Rattle.model_stobjs.specs.Abstracts.{signature, formals, with_object_named, export_formals, logic_guard}
 
 -- ---- core forms as objects
 

@@ -8,9 +8,9 @@ use Rattle.model_symbols.specs.Opening.{truth, nil, quote}
 use Rattle.model_prims.specs.Kinds.{is_pair}
 use Rattle.model_lists.specs.Types.{cons_word, not_word, member_word, and_word, or_word}
 use Rattle.model_terms.specs.Cores.{Core, Var, Const}
-use Rattle.model_events.specs.Words.{if_word, let_word, let_star_word, car_word, cdr_word, eql_word, below_word, at_most_word, above_word, at_least_word, plus_word, times_word, minus_word, add_one_word, subtract_one_word, logand_word, logior_word, logxor_word, list_word, list_star_word, append_word, assoc_word, cond_word, case_word, otherwise_word, the_word, first_word, second_word, third_word, fourth_word, fifth_word, rest_word, caar_word, cddddr_word, declare_word, mv_word, mv_let_word, stobj_let_word, with_local_word, must_be_equal_word, mbe_word, mbt_word, prog2_word, the_check_word, binary_plus_word, binary_times_word, unary_minus_word, binary_logand_word, binary_logior_word, binary_logxor_word, binary_append_word, member_equal_word, member_eq_word, assoc_equal_word, assoc_eq_word, union_equal_word, union_eq_word, hidden_variable_word}
-use Rattle.model_events.specs.Forms.{elements, each, each_of, is, has_head, are_different, name_of, is_key, variable_name}
-use Rattle.model_events.specs.TypeTerms.{true_core, false_core, call_core, type_term}
+use Rattle.model_expansion.specs.Words.{if_word, let_word, let_star_word, car_word, cdr_word, eql_word, below_word, at_most_word, above_word, at_least_word, plus_word, times_word, minus_word, add_one_word, subtract_one_word, logand_word, logior_word, logxor_word, list_word, list_star_word, append_word, assoc_word, cond_word, case_word, otherwise_word, the_word, first_word, second_word, third_word, fourth_word, fifth_word, rest_word, caar_word, cddddr_word, declare_word, mv_word, mv_let_word, stobj_let_word, with_local_word, must_be_equal_word, mbe_word, mbt_word, prog2_word, the_check_word, binary_plus_word, binary_times_word, unary_minus_word, binary_logand_word, binary_logior_word, binary_logxor_word, binary_append_word, member_equal_word, member_eq_word, assoc_equal_word, assoc_eq_word, union_equal_word, union_eq_word, hidden_variable_word}
+use Rattle.model_expansion.specs.Forms.{elements, each, each_of, is, has_head, are_different, name_of, is_key, variable_name}
+use Rattle.model_expansion.specs.TypeTerms.{true_core, false_core, call_core, type_term}
 
 -- ---- rows
 

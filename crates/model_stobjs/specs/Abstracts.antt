@@ -16,16 +16,16 @@ use Rattle.model_terms.specs.Children.{descriptor_of, is_internal, is_executable
 use Rattle.model_terms.specs.Nested.{is_object, same_kinds}
 use Rattle.model_terms.specs.Faults.{Fault, first_fault}
 use Rattle.model_terms.specs.Sites.{one_ordinary}
-use Rattle.model_events.specs.Words.{defabsstobj_word}
-use Rattle.model_events.specs.Forms.{elements, each, each_of, symbol, among, name_of}
-use Rattle.model_events.specs.TypeTerms.{true_core}
-use Rattle.model_events.specs.Faults.{Refusal, BadShape, Expand, FoundationNotConcrete, MissingFunction, SignatureMismatch, GuardNotExecutable}
-use Rattle.model_events.specs.Expansion.{Progress}
-use Rattle.model_events.specs.Answers.{Answer, Grants, unless, needing, first_given}
-use Rattle.model_events.specs.Heads.{name_in_use, bad_name}
-use Rattle.model_events.specs.Keys.{Keyed, key_value, is_given, keys_in}
-use Rattle.model_events.specs.Objects.{Making, MadeNames, names_made, number_at, room_for}
-use Rattle.model_events.specs.Guards.{Renaming, renamed_core, with_functions, binds, generated_guard}
+use Rattle.model_expansion.specs.Words.{defabsstobj_word}
+use Rattle.model_expansion.specs.Forms.{elements, each, each_of, symbol, among, name_of}
+use Rattle.model_expansion.specs.TypeTerms.{true_core}
+use Rattle.model_expansion.specs.Faults.{Refusal, BadShape, Expand, FoundationNotConcrete, MissingFunction, SignatureMismatch, GuardNotExecutable}
+use Rattle.model_expansion.specs.Expansion.{Progress}
+use Rattle.model_stobjs.specs.Answers.{Answer, Grants, unless, needing, first_given}
+use Rattle.model_stobjs.specs.Heads.{name_in_use, bad_name}
+use Rattle.model_stobjs.specs.Keys.{Keyed, key_value, is_given, keys_in}
+use Rattle.model_stobjs.specs.Objects.{Making, MadeNames, names_made, number_at, room_for}
+use Rattle.model_stobjs.specs.Guards.{Renaming, renamed_core, with_functions, binds, generated_guard}
 
 -- ---- as it is written
 

@@ -1,0 +1,9 @@
+pub mod Answers
+pub mod Heads
+pub mod Keys
+pub mod Objects
+pub mod Entries
+pub mod Guards
+pub mod Abstracts
+pub mod Obligations
+pub mod Laws
