@@ -48,6 +48,7 @@ impl<T: Copy, A: Allocator> Block<T, A> {
         }
     }
 
+    /// The element at `index`.
     pub fn read(&self, index: usize) -> T
         requires { index < length self.now.items }
         ensures { (d : T) → result ≡ slice_index_or self.now.items index d }
@@ -55,6 +56,7 @@ impl<T: Copy, A: Allocator> Block<T, A> {
         unsafe { *self.at.add(index) }
     }
 
+    /// Puts `value` at `index`.
     pub fn write(&mut self, index: usize, value: T)
         requires { index < length self.old.items }
         ensures items { self.new.items ≡ slice_set self.old.items index value }
@@ -72,6 +74,7 @@ impl<T: Copy, A: Allocator> Block<T, A> {
         unsafe { self.at.add(used).write(value) };
     }
 
+    /// Ends the block. `room` is what it was allocated with.
     pub fn give_back(self, alloc: &A, room: usize)
         requires { (room ≡ self.room) × (alloc.now ≡ self.heap) }
     {
