@@ -93,19 +93,20 @@ module _ (limit : ℕ) where
   counts_inside : (x : ℕ) (a : State ℕ) (r : Ended ℕ) → a.calls < limit → Counts limit (one_more_call a) r → Counts limit a (inside x a r)
   counts_inside x a (Gives values s) l h = grown_inside a s l h
   counts_inside x a (Stops stop within s) l h = (grown_inside a s l h.0, h.1)
-  counts_inside x a Unknown l h = tt
+  counts_inside x a Unknown l h = h
 
-  counts_export : (f : FunctionOfAbstract) (values : List (Shown ℕ)) (go : State ℕ → Ended ℕ) → GoCounts limit go → GoCounts limit (checked_export limit f values go)
+  pub counts_export : (f : FunctionOfAbstract) (values : List (Shown ℕ)) (go : State ℕ → Ended ℕ) → GoCounts limit go → GoCounts limit (checked_export limit f values go)
   counts_export f values go h state = by_test (nat_lt state.calls limit) refl
     where
       by_test : (b : Bool) → nat_lt state.calls limit ≡ b → Counts limit state (if b then inside f.name state (go (one_more_call state)) else Stops Steps None state)
       by_test true e = counts_inside f.name state (go (one_more_call state)) (ltb-true state.calls limit e) (h (one_more_call state))
       by_test false e = (grown_same limit state, λ q. not_less state.calls limit e)
 
-checked_count : (w : World) (packages : List Package) (k : ℕ) → RulesCount (checked_rules w packages k)
+pub checked_count : (w : World) (packages : List Package) (k : ℕ) → RulesCount (checked_rules w packages k)
 checked_count w packages k = record {
   primitives = λ f p values state. counts_answer k f values state _ (adds_applied (record { packages = packages; symbols = state.symbols }) p (ordinary values));
   exports = counts_export k;
+  known = λ x. (_, refl);
 }
 
 pub counts_calls : CountsCalls

@@ -42,7 +42,7 @@ module _ {S : Type 0} (limit : ℕ) where
   }
 
   -- the lists do not matter
-  grown_objects : (a b : State S) (os ps : Objects S) → Grown limit (record a { objects = os }) b → Grown limit a (record b { objects = ps })
+  pub grown_objects : (a b : State S) (os ps : Objects S) → Grown limit (record a { objects = os }) b → Grown limit a (record b { objects = ps })
   grown_objects a b os ps g = record { calls = g.calls; within = g.within; outer = g.outer; outer_calls = g.outer_calls; symbols = g.symbols }
 
   grown_call : (a b : State S) → a.calls < limit → Grown limit (one_more_call a) b → Grown limit a b
@@ -62,17 +62,17 @@ module _ {S : Type 0} (limit : ℕ) where
   pub counts_later : (a b : State S) (r : Ended S) → Grown limit a b → Counts limit b r → Counts limit a r
   counts_later a b (Gives values s) g h = grown_then a b s g h
   counts_later a b (Stops stop inside s) g h = (grown_then a b s g h.0, h.1)
-  counts_later a b Unknown g h = tt
+  counts_later a b Unknown g h = h
 
-  counts_then : (a : State S) (r : Ended S) (go : List (Shown S) → State S → Ended S) → Counts limit a r → ((values : List (Shown S)) → GoCounts (go values)) → Counts limit a (then_with r go)
+  pub counts_then : (a : State S) (r : Ended S) (go : List (Shown S) → State S → Ended S) → Counts limit a r → ((values : List (Shown S)) → GoCounts (go values)) → Counts limit a (then_with r go)
   counts_then a (Gives values s) go h k = counts_later a s (go values s) h (k values s)
   counts_then a (Stops stop inside s) go h k = h
-  counts_then a Unknown go h k = tt
+  counts_then a Unknown go h k = h
 
   counts_one : (a : State S) (r : Ended S) → a.calls < limit → Counts limit (one_more_call a) r → Counts limit a r
   counts_one a (Gives values s) l h = grown_call a s l h
   counts_one a (Stops stop inside s) l h = (grown_call a s l h.0, h.1)
-  counts_one a Unknown l h = tt
+  counts_one a Unknown l h = h
 
   pub counts_counting : (a : State S) (go : State S → Ended S) → GoCounts go → Counts limit a (counting limit a go)
   counts_counting a go h = by_test (nat_lt a.calls limit) refl
@@ -81,27 +81,27 @@ module _ {S : Type 0} (limit : ℕ) where
       by_test true e = counts_one a (go (one_more_call a)) (ltb-true a.calls limit e) (h (one_more_call a))
       by_test false e = (grown_same a, λ q. not_less a.calls limit e)
 
-  counts_state : (a : State S) (change : State S → Objects S) (os : Objects S) (r : Ended S) → Counts limit (record a { objects = os }) r → Counts limit a (with_state (λ s. record s { objects = change s }) r)
+  pub counts_state : (a : State S) (change : State S → Objects S) (os : Objects S) (r : Ended S) → Counts limit (record a { objects = os }) r → Counts limit a (with_state (λ s. record s { objects = change s }) r)
   counts_state a change os (Gives values s) h = grown_objects a s os (change s) h
   counts_state a change os (Stops stop inside s) h = (grown_objects a s os (change s) h.0, h.1)
-  counts_state a change os Unknown h = tt
+  counts_state a change os Unknown h = h
 
-  counts_objects : (a : State S) (os : Objects S) (r : Ended S) → Counts limit (record a { objects = os }) r → Counts limit a r
+  pub counts_objects : (a : State S) (os : Objects S) (r : Ended S) → Counts limit (record a { objects = os }) r → Counts limit a r
   counts_objects a os (Gives values s) h = grown_objects a s os s.objects h
   counts_objects a os (Stops stop inside s) h = (grown_objects a s os s.objects h.0, h.1)
-  counts_objects a os Unknown h = tt
+  counts_objects a os Unknown h = h
 
-  counts_back : (formals : List ℕ) (actuals : List (Shown S)) (a : State S) (r : Ended S) → Counts limit (inner_state formals actuals a) r → Counts limit a (back formals actuals a r)
+  pub counts_back : (formals : List ℕ) (actuals : List (Shown S)) (a : State S) (r : Ended S) → Counts limit (inner_state formals actuals a) r → Counts limit a (back formals actuals a r)
   counts_back formals actuals a (Gives values s) h = grown_objects a s _ _ h
   counts_back formals actuals a (Stops stop inside s) h = (grown_objects a s _ _ h.0, h.1)
-  counts_back formals actuals a Unknown h = tt
+  counts_back formals actuals a Unknown h = h
 
-  counts_returned : (loans : List (Loan S)) (a : State S) (os : Objects S) (r : Ended S) → Counts limit (record a { objects = os }) r → Counts limit a (returned loans r)
+  pub counts_returned : (loans : List (Loan S)) (a : State S) (os : Objects S) (r : Ended S) → Counts limit (record a { objects = os }) r → Counts limit a (returned loans r)
   counts_returned loans a os (Gives values s) h = grown_objects a s os _ h
   counts_returned loans a os (Stops stop inside s) h = (grown_objects a s os _ h.0, h.1)
-  counts_returned loans a os Unknown h = tt
+  counts_returned loans a os Unknown h = h
 
-  counts_if : (a : State S) (b : Bool) (r s : Ended S) → Counts limit a r → Counts limit a s → Counts limit a (if b then r else s)
+  pub counts_if : (a : State S) (b : Bool) (r s : Ended S) → Counts limit a r → Counts limit a s → Counts limit a (if b then r else s)
   counts_if a true r s h k = h
   counts_if a false r s h k = k
 
@@ -137,6 +137,7 @@ module _ {S : Type 0} (r : Rules S) where
   pub record RulesCount : Type 0 where
     pub primitives : (f : ℕ) (p : Prim) (values : List (Shown S)) → GoCounts r.limit (r.primitive f p values)
     pub exports : (f : FunctionOfAbstract) (values : List (Shown S)) (go : State S → Ended S) → GoCounts r.limit go → GoCounts r.limit (r.export f values go)
+    pub known : (x : ℕ) → (l : ObjectList S) × (r.fresh x ≡ Some l)
 
   module _ (g : RulesCount) where
     abbrev EvCounts : Evaluator S → Type 0
@@ -151,16 +152,16 @@ module _ {S : Type 0} (r : Rules S) where
     deep : (state : State S) → Counts r.limit state (Stops Depth None state)
     deep state = (grown_same r.limit state, λ q. absurd q)
 
-    counts_scoped : (ev : Evaluator S) (formals : List ℕ) (values : List (Shown S)) (form : Core) → EvCounts ev → GoCounts r.limit (scoped r ev formals values form)
+    pub counts_scoped : (ev : Evaluator S) (formals : List ℕ) (values : List (Shown S)) (form : Core) → EvCounts ev → GoCounts r.limit (scoped r ev formals values form)
     counts_scoped ev formals values form h state =
         counts_back r.limit formals values state _ (h form (inner_variables formals values) (inner_state formals values state))
 
-    counts_guarded : (ev : Evaluator S) (name : ℕ) (formals : List ℕ) (guard : Core) (values : List (Shown S)) (go : State S → Ended S) → EvCounts ev → GoCounts r.limit go → GoCounts r.limit (guarded r ev name formals guard values go)
+    pub counts_guarded : (ev : Evaluator S) (name : ℕ) (formals : List ℕ) (guard : Core) (values : List (Shown S)) (go : State S → Ended S) → EvCounts ev → GoCounts r.limit go → GoCounts r.limit (guarded r ev name formals guard values go)
     counts_guarded ev name formals guard values go h k state =
         counts_then r.limit state _ _ (counts_scoped ev formals values guard h state)
         (λ test after. counts_if r.limit after (is_false r test) _ _ (stopped after name values) (k after))
 
-    counts_abstract : (ev : Evaluator S) (exec : ℕ → State S → Ended S) (f : FunctionOfAbstract) (role : AbstractRole) (values : List (Shown S)) → EvCounts ev → GoCounts r.limit (exec f.exec) → GoCounts r.limit (of_abstract r ev exec f role values)
+    pub counts_abstract : (ev : Evaluator S) (exec : ℕ → State S → Ended S) (f : FunctionOfAbstract) (role : AbstractRole) (values : List (Shown S)) → EvCounts ev → GoCounts r.limit (exec f.exec) → GoCounts r.limit (of_abstract r ev exec f role values)
     counts_abstract ev exec f abstract_role.Recognizer values h k state = grown_same r.limit state
     counts_abstract ev exec f abstract_role.Creator values h k state = stopped state f.name values
     counts_abstract ev exec f abstract_role.Export values h k state =
@@ -172,7 +173,7 @@ module _ {S : Type 0} (r : Rules S) where
     counts_effected f values None state (Writes l) = stopped state f values
     counts_effected f values (Some x) state (Writes l) = grown_objects r.limit state state _ _ (grown_same r.limit state)
 
-    counts_definition : (ev : Evaluator S) (go : FunctionOfAbstract → State S → Ended S) (d : Option Definition) (name : ℕ) (values : List (Shown S)) → EvCounts ev → ((f : FunctionOfAbstract) → GoCounts r.limit (go f)) → GoCounts r.limit (by_definition r ev go d name values)
+    pub counts_definition : (ev : Evaluator S) (go : FunctionOfAbstract → State S → Ended S) (d : Option Definition) (name : ℕ) (values : List (Shown S)) → EvCounts ev → ((f : FunctionOfAbstract) → GoCounts r.limit (go f)) → GoCounts r.limit (by_definition r ev go d name values)
     counts_definition ev go None name values h k state = stopped state name values
     counts_definition ev go (Some (Primitive f row)) name values h k state = g.primitives f row.prim values state
     counts_definition ev go (Some (Defined f)) name values h k state =
@@ -186,12 +187,12 @@ module _ {S : Type 0} (r : Rules S) where
     counts_definition ev go (Some (Named f formals)) name values h k state = stopped state name values
     counts_definition ev go (Some (Signed f formals signature executable)) name values h k state = stopped state name values
 
-    counts_exec : (ev : Evaluator S) (values : List (Shown S)) (name : ℕ) → EvCounts ev → GoCounts r.limit (exec_called r ev values name)
+    pub counts_exec : (ev : Evaluator S) (values : List (Shown S)) (name : ℕ) → EvCounts ev → GoCounts r.limit (exec_called r ev values name)
     unfolding exec_called
     counts_exec ev values name h state =
         counts_definition ev _ (definition r.world name) name values h (λ f after. stopped after name values) state
 
-    counts_called : (ev : Evaluator S) (name : ℕ) (values : List (Shown S)) → EvCounts ev → GoCounts r.limit (called r ev name values)
+    pub counts_called : (ev : Evaluator S) (name : ℕ) (values : List (Shown S)) → EvCounts ev → GoCounts r.limit (called r ev name values)
     unfolding called
     counts_called ev name values h state =
         counts_counting r.limit state _
@@ -204,7 +205,7 @@ module _ {S : Type 0} (r : Rules S) where
 
     -- ---- parts
 
-    counts_in_order : (ev : Evaluator S) (forms : Cores) (variables : Variables S) (done : List (Shown S)) (go : List (Shown S) → State S → Ended S) → EvCounts ev → ((values : List (Shown S)) → GoCounts r.limit (go values)) → GoCounts r.limit (in_order r ev forms variables done go)
+    pub counts_in_order : (ev : Evaluator S) (forms : Cores) (variables : Variables S) (done : List (Shown S)) (go : List (Shown S) → State S → Ended S) → EvCounts ev → ((values : List (Shown S)) → GoCounts r.limit (go values)) → GoCounts r.limit (in_order r ev forms variables done go)
     unfolding in_order
     counts_in_order ev none variables done go h k state = k done state
     counts_in_order ev (more form forms) variables done go h k state =
@@ -220,14 +221,14 @@ module _ {S : Type 0} (r : Rules S) where
 
     -- ---- children
 
-    counts_borrowed_from : (child : ℕ) (by : Reached) (p : Shown S) (variables : Variables S) (go : Loan S → State S → Ended S) → ((loan : Loan S) → GoCounts r.limit (go loan)) → GoCounts r.limit (borrowed_from r child by p variables go)
+    pub counts_borrowed_from : (child : ℕ) (by : Reached) (p : Shown S) (variables : Variables S) (go : Loan S → State S → Ended S) → ((loan : Loan S) → GoCounts r.limit (go loan)) → GoCounts r.limit (borrowed_from r child by p variables go)
     counts_borrowed_from child by (Plain o) variables go k state = deep state
     counts_borrowed_from child by (Stobj p) variables go k state =
         let loan = loan_of r child p by variables in
         counts_counting r.limit state (borrowing r by.accessor loan (go loan))
         (λ after. counts_if r.limit after (is_reached loan.index (item loan.field (list_of after.objects loan.parent))) (go loan after) (Stops (Guard by.accessor (loan_values loan)) None after) (k loan after) (stopped after by.accessor (loan_values loan)))
 
-    counts_borrowed : (child : ℕ) (by : Option Reached) (variables : Variables S) (go : Loan S → State S → Ended S) → ((loan : Loan S) → GoCounts r.limit (go loan)) → GoCounts r.limit (borrowed r child by variables go)
+    pub counts_borrowed : (child : ℕ) (by : Option Reached) (variables : Variables S) (go : Loan S → State S → Ended S) → ((loan : Loan S) → GoCounts r.limit (go loan)) → GoCounts r.limit (borrowed r child by variables go)
     counts_borrowed child None variables go k state = deep state
     counts_borrowed child (Some by) variables go k state = counts_borrowed_from child by (variable_in r.kind variables by.parent) variables go k state
 
@@ -240,7 +241,7 @@ module _ {S : Type 0} (r : Rules S) where
     stays_borrowed child None variables go state = λ q. refl
     stays_borrowed child (Some by) variables go state = stays_borrowed_from child by (variable_in r.kind variables by.parent) variables go state
 
-    counts_all_borrowed : (names : List ℕ) (forms : Cores) (variables : Variables S) (loans : List (Loan S)) (go : List (Loan S) → State S → Ended S) → ((ls : List (Loan S)) → GoCounts r.limit (go ls)) → GoCounts r.limit (all_borrowed r names forms variables loans go)
+    pub counts_all_borrowed : (names : List ℕ) (forms : Cores) (variables : Variables S) (loans : List (Loan S)) (go : List (Loan S) → State S → Ended S) → ((ls : List (Loan S)) → GoCounts r.limit (go ls)) → GoCounts r.limit (all_borrowed r names forms variables loans go)
     unfolding all_borrowed
     counts_all_borrowed names none variables loans go k state = k loans state
     counts_all_borrowed [] (more form forms) variables loans go k state = k loans state
@@ -253,7 +254,7 @@ module _ {S : Type 0} (r : Rules S) where
     stays_all_borrowed [] (more form forms) variables loans go k state = k state
     stays_all_borrowed (x ∷ xs) (more form forms) variables loans go k state = stays_borrowed x (reached form) variables _ state
 
-    counts_put_back : (vars : List ℕ) (loans : List (Loan S)) (go : State S → Ended S) → GoCounts r.limit go → GoCounts r.limit (put_back r vars loans go)
+    pub counts_put_back : (vars : List ℕ) (loans : List (Loan S)) (go : State S → Ended S) → GoCounts r.limit go → GoCounts r.limit (put_back r vars loans go)
     unfolding put_back
     counts_put_back vars [] go k state = k state
     counts_put_back vars (l ∷ ls) go k state =
@@ -261,13 +262,13 @@ module _ {S : Type 0} (r : Rules S) where
         (counts_counting r.limit state _ (λ after. counts_objects r.limit after _ _ (counts_put_back vars ls go k (record after { objects = put_into_parent l after.objects }))))
         (counts_put_back vars ls go k state)
 
-    counts_producing : (ev : Evaluator S) (vars : List ℕ) (producer : Core) (variables : Variables S) (loans : List (Loan S)) → EvCounts ev → GoCounts r.limit (producing r ev vars producer variables loans)
+    pub counts_producing : (ev : Evaluator S) (vars : List ℕ) (producer : Core) (variables : Variables S) (loans : List (Loan S)) → EvCounts ev → GoCounts r.limit (producing r ev vars producer variables loans)
     counts_producing ev vars producer variables loans h state =
         counts_returned r.limit loans state _ _
         (counts_then r.limit (lending r loans state) _ _ (h producer (loaned_variables r loans variables) (lending r loans state))
         (λ values after. counts_put_back vars loans _ (λ last. grown_same r.limit last) after))
 
-    counts_with_loans : (ev : Evaluator S) (vars : List ℕ) (producer consumer : Core) (variables : Variables S) (loans : List (Loan S)) → EvCounts ev → GoCounts r.limit (with_loans r ev vars producer consumer variables loans)
+    pub counts_with_loans : (ev : Evaluator S) (vars : List ℕ) (producer consumer : Core) (variables : Variables S) (loans : List (Loan S)) → EvCounts ev → GoCounts r.limit (with_loans r ev vars producer consumer variables loans)
     counts_with_loans ev vars producer consumer variables loans h state =
         counts_if r.limit state (are_twins r.kind loans) _ _ (stopped state stobj_let_word (indices loans))
         (counts_then r.limit state _ _ (counts_producing ev vars producer variables loans h state) (λ values after. h consumer (bound vars values variables) after))
@@ -285,10 +286,12 @@ module _ {S : Type 0} (r : Rules S) where
 
     -- ---- local objects
 
-    counts_fresh : (ev : Evaluator S) (x : ℕ) (l : Option (ObjectList S)) (producer : Core) (variables : Variables S) → EvCounts ev → GoCounts r.limit (with_fresh r ev x l producer variables)
-    counts_fresh ev x None producer variables h state = tt
-    counts_fresh ev x (Some l) producer variables h state =
-        counts_state r.limit state (λ s. drop 1 s.objects) _ _ (h producer _ _)
+    pub counts_fresh : (ev : Evaluator S) (x : ℕ) (l : Option (ObjectList S)) (producer : Core) (variables : Variables S) → EvCounts ev → (m : ObjectList S) × (l ≡ Some m) → GoCounts r.limit (with_fresh r ev x l producer variables)
+    counts_fresh ev x None producer variables h e state = cc_none e.1
+      where
+        cc_none : {m : ObjectList S} → None ≡ Some m → ⊥
+        cc_none e = cc
+    counts_fresh ev x (Some l) producer variables h e state = counts_state r.limit state (λ s. drop 1 s.objects) _ _ (h producer _ _)
 
     -- ---- forms
 
@@ -305,7 +308,7 @@ module _ {S : Type 0} (r : Rules S) where
     counts_opened ev h (StobjLet names forms vars producer consumer) variables state =
         counts_all_borrowed names forms variables [] _ (λ loans. counts_with_loans ev vars producer consumer variables loans h) state
     counts_opened ev h (WithLocal object names producer body) variables state =
-        counts_then r.limit state _ _ (counts_counting r.limit state _ (counts_fresh ev object (r.fresh object) producer variables h))
+        counts_then r.limit state _ _ (counts_counting r.limit state _ (counts_fresh ev object (r.fresh object) producer variables h (g.known object)))
         (λ values after. h body (bound names values variables) after)
     counts_opened ev h (MustBeEqual logic exec) variables state = h logic variables state
     counts_opened ev h (Call f actuals) variables state = counts_in_order ev actuals variables [] _ h (λ values. counts_called ev f values h) state
@@ -323,7 +326,7 @@ module _ {S : Type 0} (r : Rules S) where
     stays_opened ev c h (StobjLet names forms vars producer consumer) variables state =
         stays_all_borrowed names forms variables [] _ (stays_without_loans ev vars producer consumer variables c h) state
     stays_opened ev c h (WithLocal object names producer body) variables state =
-        stays_then r.limit state _ _ (counts_counting r.limit state _ (counts_fresh ev object (r.fresh object) producer variables c))
+        stays_then r.limit state _ _ (counts_counting r.limit state _ (counts_fresh ev object (r.fresh object) producer variables c (g.known object)))
         (stays_counting r.limit state (with_fresh r ev object (r.fresh object) producer variables)) (λ values after. h body (bound names values variables) after)
     stays_opened ev c h (MustBeEqual logic exec) variables state = h logic variables state
     stays_opened ev c h (Call f actuals) variables state = stays_in_order ev actuals variables [] _ c h (λ values after. stays_called ev f values after) state

@@ -6,3 +6,7 @@ pub mod Lists
 pub mod Frame
 pub mod FrameLemmas
 pub mod BudgetLemmas
+pub mod OpeningLemmas
+pub mod Cut
+pub mod CutLemmas
+pub mod WordLemmas

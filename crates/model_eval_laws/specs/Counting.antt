@@ -16,11 +16,11 @@ pub record Grown {S : Type 0} (limit : ℕ) (old new : State S) : Type 0 where
   pub outer_calls : new.outer + old.calls ≤ new.calls + old.outer
   pub symbols : (added : List QualifiedName) × (new.symbols ≡ old.symbols ++ added)
 
--- an outcome has such a state; where it stopped at the limit of calls, that many were counted
+-- there is an outcome, and it has such a state; where it stopped at the limit of calls, that many were counted
 abbrev pub Counts : {S : Type 0} → ℕ → State S → Ended S → Type 0
 Counts limit old (Gives values new) = Grown limit old new
 Counts limit old (Stops stop inside new) = Grown limit old new × (IsSteps stop → limit ≤ new.calls)
-Counts limit old Unknown = Unit {0}
+Counts limit old Unknown = ⊥
 
 -- an outcome has these lists
 abbrev pub HasObjects : {S : Type 0} → Objects S → Ended S → Type 0

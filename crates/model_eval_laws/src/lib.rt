@@ -4,7 +4,10 @@
 ghost use Rattle.model_eval_laws.specs.Laws.{AgreesUntilLimit, KeepsOutcomes};
 ghost use Rattle.model_eval_laws.specs.Counting.{CountsCalls};
 ghost use Rattle.model_eval_laws.specs.Budgets.{IsSameAtLargerBudgets};
+ghost use Rattle.model_eval_laws.specs.Cutting.{IsCut};
+ghost use Rattle.model_eval_laws.specs.Opening.{OpensForms};
 ghost use Rattle.model_eval_laws.specs.Scope.{LeavesOthers};
+ghost use Rattle.model_eval_laws.specs.Words.{IsStobjLetWord};
 
 /// A larger limit of calls or of open forms changes nothing, unless the smaller one was met.
 #[tactic(auto, using(crate::proofs::LimitLemmas::agrees_until_limit))]
@@ -35,4 +38,22 @@ pub fn other_objects_are_left()
 #[tactic(auto, using(crate::proofs::BudgetLemmas::is_same_at_larger_budgets))]
 pub fn larger_budgets_give_the_same()
     ensures { IsSameAtLargerBudgets }
+{}
+
+/// No more forms are open at once than the limit.
+#[tactic(auto, using(crate::proofs::OpeningLemmas::opens_forms))]
+pub fn open_forms_are_limited()
+    ensures { OpensForms }
+{}
+
+/// An evaluation that is cut at a limit of calls is the beginning of the one that goes on.
+#[tactic(auto, using(crate::proofs::CutLemmas::is_cut))]
+pub fn cut_evaluations_come_before()
+    ensures { IsCut }
+{}
+
+/// `STOBJ-LET` has the number that it is taken to have.
+#[tactic(auto, using(crate::proofs::WordLemmas::is_stobj_let_word))]
+pub fn stobj_let_is_named()
+    ensures { IsStobjLetWord }
 {}

@@ -21,6 +21,10 @@ use Rattle.model_eval_rows.specs.Types.{TypesAreRight, type_rows}
 use Rattle.model_eval_rows.specs.ShownLists.{ShownAreRight, shown_rows}
 use Rattle.model_eval_rows.specs.Several.{child_rows, congruent_rows}
 use Rattle.model_eval_rows.specs.Abstract.{abstract_rows}
+use Rattle.model_eval_rows.specs.StackMachine.{machine_rows}
+use Rattle.model_eval_rows.specs.Nested.{export_rows, family_rows, counted_rows}
+use Rattle.model_symbols.specs.Opening.{opening, acl2_package, common_lisp_symbols, acl2_symbols, common_lisp_text, acl2_text}
+use Rattle.model_eval_rows.specs.Words.{AreNamed}
 use Rattle.model_eval_rows.specs.Fields.{array_rows, hash_rows}
 
 pub counting : AreRight counting_rows
@@ -80,3 +84,23 @@ corresponding = record {
     tt,
   );
 }
+
+pub stack_machine : AreRight machine_rows
+unfolding machine_rows guard recognizer_guard relation_guard arithmetic_guard listing_guard naming_guard wanted recognized related computed listed named_by applied_to bounded accessed changed lengthened hash_read hash_bound hash_looked_up hash_put hash_removed layout_within effect exec_called called in_order all_borrowed put_back evaluated
+stack_machine = record { all = refl }
+
+pub exports_in_exports : AreRight export_rows
+unfolding export_rows guard recognizer_guard relation_guard arithmetic_guard listing_guard naming_guard wanted recognized related computed listed named_by applied_to bounded accessed changed lengthened hash_read hash_bound hash_looked_up hash_put hash_removed layout_within effect exec_called called in_order all_borrowed put_back evaluated
+exports_in_exports = record { all = refl }
+
+pub children_of_children : AreRight family_rows
+unfolding family_rows guard recognizer_guard relation_guard arithmetic_guard listing_guard naming_guard wanted recognized related computed listed named_by applied_to bounded accessed changed lengthened hash_read hash_bound hash_looked_up hash_put hash_removed layout_within effect exec_called called in_order all_borrowed put_back evaluated
+children_of_children = record { all = refl }
+
+pub many_calls : AreRight counted_rows
+unfolding counted_rows guard recognizer_guard relation_guard arithmetic_guard listing_guard naming_guard wanted recognized related computed listed named_by applied_to bounded accessed changed lengthened hash_read hash_bound hash_looked_up hash_put hash_removed layout_within effect exec_called called in_order all_borrowed put_back evaluated
+many_calls = record { all = refl }
+
+pub words : AreNamed
+unfolding opening acl2_package common_lisp_symbols acl2_symbols common_lisp_text acl2_text
+words = record { names = refl }

@@ -14,8 +14,8 @@ use Rattle.model_lists.specs.Types.{integer_word}
 use Rattle.model_terms.specs.Cores.{Core, Const, If, Call, cores}
 use Rattle.model_terms.specs.Worlds.{World, Definition, Out, Ordinary, Shape, Scalar, Primitive, Defined, Concrete, Generated}
 use Rattle.model_terms.specs.declared.role.Role.{Role}
-use Rattle.model_eval.specs.Outcomes.{Shown, Stobj, Stop, State, Ended, Gives, Stops}
-use Rattle.model_eval.specs.Checked.{checked}
+use Rattle.model_eval.specs.Outcomes.{Shown, Stop, State, Ended, Gives, Stops}
+use Rattle.model_eval.specs.Checked.{checked, begun, live}
 
 -- ---- forms and values
 
@@ -152,7 +152,7 @@ state objects calls outer = record { objects = objects; symbols = []; calls = ca
 
 abbrev pub outcome : Row → Ended ℕ
 outcome r =
-    checked r.world [] r.limit r.depth r.form (map (λ o. (o.0, Stobj o.0)) r.objects) (state r.objects 0 0)
+    checked r.world [] r.limit r.depth r.form (live r.objects) (begun [] r.objects 0)
 
 -- the definitions give each answer
 pub record AreRight (rows : List Row) : Type 0 where

@@ -183,6 +183,9 @@ array_rows =
     (listed zeros (7 ∷ 7 ∷ 7 ∷ []) []) 4
     ∷ value (listed zeros (7 ∷ 7 ∷ 9 ∷ []) []) (call b_length (Var st ∷ [])) (number 3)
     ∷ changes (listed zeros (7 ∷ 7 ∷ 9 ∷ []) []) (call resize_b (int 0 ∷ Var st ∷ [])) (listed zeros [] []) 1
+    -- what is not cut off stays
+    ∷ changes (listed zeros (1 ∷ 2 ∷ []) []) (call resize_b (int 3 ∷ Var st ∷ [])) (listed zeros (1 ∷ 2 ∷ 7 ∷ []) []) 1
+    ∷ changes (listed zeros (1 ∷ 2 ∷ 3 ∷ []) []) (call resize_b (int 2 ∷ Var st ∷ [])) (listed zeros (1 ∷ 2 ∷ []) []) 1
     -- too long, no natural number, and an array that is not resizable
     ∷ refuses (listed zeros [] []) resize_b (number 16777217 ∷ [])
     ∷ refuses (listed zeros [] []) resize_b (Integer (negsuc 0) ∷ [])

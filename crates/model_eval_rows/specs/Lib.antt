@@ -7,3 +7,6 @@ pub mod Types
 pub mod ShownLists
 pub mod Logic
 pub mod Abstractly
+pub mod StackMachine
+pub mod Nested
+pub mod Words

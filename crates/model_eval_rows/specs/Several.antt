@@ -1,5 +1,6 @@
 -- Several objects and children: (defstobj kid (val :type integer :initially 0)),
--- (defstobj kid2 (val2 :type integer :initially 0) :congruent-to kid), (defstobj par (k :type (array kid (3))) (one :type kid)).
+-- (defstobj kid2 (val2 :type integer :initially 0) :congruent-to kid), (defstobj par (k :type (array kid (3))) (one :type kid)
+-- (m :type (array kid (2)))).
 use Rattle.std.specs.Prelude.{ℕ, List, [], ◌∷◌, ◌++◌, Some, None}
 use Rattle.model_lists.specs.Lists.{ObjectList, End}
 use Rattle.model_terms.specs.Cores.{Core, Var, Let, Mv, StobjLet, cores}
@@ -54,6 +55,9 @@ both = 209
 
 abbrev spoil : ℕ
 spoil = 210
+
+abbrev mi : ℕ
+mi = 215
 
 abbrev i : ℕ
 i = 211
@@ -113,12 +117,13 @@ book =
     primitives
     ++ (object kid (integer_field ∷ []) None kid
     ∷ object kid2 (integer_field ∷ []) (Some kid) kid
-    ∷ object par (worlds.Children kid 3 ∷ worlds.Child kid ∷ []) None par
+    ∷ object par (worlds.Children kid 3 ∷ worlds.Child kid ∷ worlds.Children kid 2 ∷ []) None par
     ∷ generated val kid 0 role.Access (worlds.Stobj kid ∷ []) (Ordinary ∷ [])
     ∷ generated update_val kid 0 role.Update (Ordinary ∷ worlds.Stobj kid ∷ []) (worlds.Stobj kid ∷ [])
     ∷ generated val2 kid2 0 role.Access (worlds.Stobj kid2 ∷ []) (Ordinary ∷ [])
     ∷ generated update_val2 kid2 0 role.Update (Ordinary ∷ worlds.Stobj kid2 ∷ []) (worlds.Stobj kid2 ∷ [])
     ∷ generated ki par 0 role.Access ordinary_and_par (worlds.Stobj kid ∷ [])
+    ∷ generated mi par 2 role.Access ordinary_and_par (worlds.Stobj kid ∷ [])
     ∷ generated one par 1 role.Access (worlds.Stobj par ∷ []) (worlds.Stobj kid ∷ [])
     ∷ generated k_length par 0 role.Length (worlds.Stobj par ∷ []) (Ordinary ∷ [])
     ∷ generated resize_k par 0 role.Resize ordinary_and_par (worlds.Stobj par ∷ [])
@@ -132,7 +137,8 @@ abbrev pub one_field : ℕ → ObjectList ℕ
 one_field n = numbers (n ∷ [])
 
 abbrev pub parent : ℕ → ℕ → ℕ → ℕ → ObjectList ℕ
-parent a b c d = items (items (one_field a ∷ one_field b ∷ one_field c ∷ []) ∷ one_field d ∷ [])
+parent a b c d =
+    items (items (one_field a ∷ one_field b ∷ one_field c ∷ []) ∷ one_field d ∷ items (one_field 0 ∷ one_field 0 ∷ []) ∷ [])
 
 -- kid, kid2 and par
 abbrev pub family : ℕ → ℕ → ObjectList ℕ → List (ℕ × ObjectList ℕ)
@@ -168,6 +174,11 @@ child_rows =
     ∷ run 1000 3 (family 5 6 (parent 1 2 0 0)) (call peek (int 1 ∷ Var par ∷ [])) (gives (Plain (number 2) ∷ []) (family 5 6 (parent 1 2 0 0)) 5)
     ∷ run 1000 2 (family 5 6 (parent 1 2 0 0)) (call peek (int 1 ∷ Var par ∷ [])) (stops Depth (family 5 6 (parent 1 2 0 0)) 1)
     ∷ run 1000 1 new (StobjLet (kid ∷ []) (cores (call ki (int 1 ∷ Var par ∷ []) ∷ [])) (v ∷ []) (int 5) (Var v)) (gives (Plain (number 5) ∷ []) new 1)
+    -- equal indices in different arrays are no two of one
+    ∷ run 1000 100 new
+    (StobjLet (kid ∷ kid2 ∷ []) (cores (call ki (int 1 ∷ Var par ∷ []) ∷ call mi (int 1 ∷ Var par ∷ []) ∷ [])) (kid ∷ kid2 ∷ [])
+    (Let (kid ∷ []) (cores (set_val kid (int 4) ∷ [])) (Mv (cores (Var kid ∷ Var kid2 ∷ [])))) (Var par))
+    (gives (Stobj par ∷ []) (family 0 0 (parent 0 4 0 0)) 5)
     ∷ run 1000 100 new (call k_length (Var par ∷ [])) (gives (Plain (number 3) ∷ []) new 1)
     ∷ run 1000 100 new (call resize_k (int 3 ∷ Var par ∷ [])) (stops (Guard resize_k (Plain (number 3) ∷ Stobj par ∷ [])) new 1)
     ∷ []

@@ -6,11 +6,14 @@ ghost use Rattle.model_eval_rows.specs.Counting.{counting_rows};
 ghost use Rattle.model_eval_rows.specs.Abstractly.{AbstractlyRight, Corresponds};
 ghost use Rattle.model_eval_rows.specs.Abstractly as abstractly;
 ghost use Rattle.model_eval_rows.specs.Logic.{LogicIsRight, logic_rows, odd_rows};
+ghost use Rattle.model_eval_rows.specs.StackMachine.{machine_rows};
+ghost use Rattle.model_eval_rows.specs.Nested.{export_rows, family_rows, counted_rows};
 ghost use Rattle.model_eval_rows.specs.Types.{TypesAreRight, type_rows};
 ghost use Rattle.model_eval_rows.specs.ShownLists.{ShownAreRight, shown_rows};
 ghost use Rattle.model_eval_rows.specs.Several.{child_rows, congruent_rows};
 ghost use Rattle.model_eval_rows.specs.Abstract.{abstract_rows};
 ghost use Rattle.model_eval_rows.specs.Fields.{array_rows, hash_rows};
+ghost use Rattle.model_eval_rows.specs.Words.{AreNamed};
 
 /// Calls and limits, guards, several values, and a local object.
 #[tactic(auto, using(crate::proofs::Computed::counting))]
@@ -82,4 +85,34 @@ pub fn abstract_values()
 #[tactic(auto, using(crate::proofs::Computed::corresponding))]
 pub fn corresponding_lists()
     ensures { Corresponds }
+{}
+
+/// The programs of a small stack machine.
+#[tactic(auto, using(crate::proofs::Computed::stack_machine))]
+pub fn stack_machine()
+    ensures { AreRight machine_rows }
+{}
+
+/// Exports in guards and in exec functions of others.
+#[tactic(auto, using(crate::proofs::Computed::exports_in_exports))]
+pub fn exports_in_exports()
+    ensures { AreRight export_rows }
+{}
+
+/// Children of children.
+#[tactic(auto, using(crate::proofs::Computed::children_of_children))]
+pub fn children_of_children()
+    ensures { AreRight family_rows }
+{}
+
+/// Guards of guards, bounds, and some thousand calls.
+#[tactic(auto, using(crate::proofs::Computed::many_calls))]
+pub fn many_calls()
+    ensures { AreRight counted_rows }
+{}
+
+/// The primitives that rows call have the numbers of their names.
+#[tactic(auto, using(crate::proofs::Computed::words))]
+pub fn words_are_named()
+    ensures { AreNamed }
 {}
