@@ -1,0 +1,17 @@
+//! Laws of expansion: what the tests of types say, and what comes first.
+#![tactic(auto)]
+
+ghost use Rattle.model_expansion_laws.specs.Depth.{DepthComesFirst};
+ghost use Rattle.model_expansion_laws.specs.Tests.{TestsSay};
+
+/// The test of a type gives a value other than `NIL` exactly where the object meets the type, and stops at a limit alone.
+#[tactic(auto, using(crate::proofs::TestLemmas::tests_say))]
+pub fn tests_say_what_types_mean()
+    ensures { TestsSay }
+{}
+
+/// A node that is too deep is refused before all else, uncounted.
+#[tactic(auto, using(crate::proofs::DepthLemmas::depth_comes_first))]
+pub fn depth_comes_first()
+    ensures { DepthComesFirst }
+{}
