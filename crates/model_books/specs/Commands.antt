@@ -1,9 +1,8 @@
 -- A command: its answer, its calls, and the session after it.
-use Rattle.std.specs.Prelude.{ℕ, ◌+◌, List, [], ◌∷◌, ◌++◌, map, Bool, true, false, Option, Some, None, codes, option_map, option_and_then, if◌then◌else◌}
+use Rattle.std.specs.Prelude.{ℕ, ◌+◌, List, [], ◌∷◌, ◌++◌, map, Bool, true, false, Option, Some, None, codes, option_map, option_and_then, unwrap_or, nat_eq, if◌then◌else◌}
 use Rattle.std.specs.Option.{option_map_or}
 use Rattle.std.specs.Str.{bytes_eq}
 use Rattle.std.specs.Map.{lookup}
-use Rattle.std.specs.Prelude.{nat_eq}
 use Rattle.model_objects.specs.Object.{Object, Integer, Symbol, Text, Pair}
 use Rattle.model_symbols.specs.Symbols.{QualifiedName}
 use Rattle.model_lists.specs.Lists.{ObjectList}
@@ -23,32 +22,86 @@ use Rattle.model_stobjs.specs.Heads.{event_heads, is_skipped, is_unsupported}
 use Rattle.model_events.specs.Events.{Standing, Limits, Said, Admitted, setting, admitted}
 use Rattle.model_books.specs.Opening.{Session}
 
-pub data Answered : Type 0 where
-  Event : Said → Answered
-  Skipped : Answered
-  Values : List (Shown ℕ) → Answered
-  Show : Object ℕ → Answered
-  Cells : ℕ → Answered
-  Refused : Refusal → Answered
-  Stopped : Stop ℕ → Option ℕ → Answered
+-- an answer, over any kind of symbols
+pub data Answered (S : Type 0) : Type 0 where
+  Event : Said → Answered S
+  Skipped : Answered S
+  Values : List (Shown S) → Answered S
+  Show : Object S → Answered S
+  Cells : ℕ → Answered S
+  Refused : Refusal → Answered S
+  Stopped : Stop S → Option ℕ → Answered S  -- also the outermost export that it came inside
 
 pub record Outcome : Type 0 where
   pub session : Session
-  pub answer : Answered
+  pub answer : Answered ℕ
+  -- the calls, and those of them that no export made
   pub calls : ℕ
+  pub outer : ℕ
+
+-- ---- the kinds of commands
+
+-- how each kind of command is answered
+pub record Ways (O : Type 0) : Type 0 where
+  pub event : ℕ → Object ℕ → O  -- from its head and what stands behind it
+  pub skipped : O
+  pub refused : Refusal → O  -- a refusal that counts nothing and changes nothing
+  pub expression : Object ℕ → O
+  pub show : ℕ → Option O  -- a live object; None where none has the name
+  pub cells : O
+
+module _ {O : Type 0} (ways : Ways O) (symbols : List QualifiedName) where
+  abbrev pub bad_shape : ℕ → O
+  bad_shape head = ways.refused (Expand (BadShape head))
+
+  abbrev pub only_symbol : Option (List (Object ℕ)) → Option ℕ
+  only_symbol (Some (o ∷ [])) = symbol o
+  only_symbol os = None
+
+  abbrev pub cells_way : ℕ → Option (List (Object ℕ)) → O
+  cells_way head (Some []) = ways.cells
+  cells_way head os = bad_shape head
+
+  abbrev pub keyword_way : ℕ → Object ℕ → O
+  keyword_way head d =
+      if bytes_eq (name_of symbols head) (codes "SHOW") then unwrap_or (option_and_then ways.show (only_symbol (elements d))) (bad_shape head)
+      else if bytes_eq (name_of symbols head) (codes "CELLS") then cells_way head (elements d)
+      else ways.refused (NotSupported head)
+
+  abbrev pub headed_way : ℕ → Object ℕ → O
+  headed_way head d =
+      if among head event_heads then ways.event head d
+      else if is_skipped head then ways.skipped
+      else if is_unsupported head then ways.refused (NotSupported head)
+      else if is_keyword symbols head then keyword_way head d
+      else ways.expression (Pair (Symbol head) d)
+
+  -- a pair is a command of its head, whatever stands behind it; any other form is an expression
+  abbrev pub way_of : Object ℕ → O
+  way_of (Integer n) = ways.expression (Integer n)
+  way_of (Symbol x) = ways.expression (Symbol x)
+  way_of (Text bytes) = ways.expression (Text bytes)
+  way_of (Pair a d) = option_map_or (λ head. headed_way head d) (symbol a) (ways.expression (Pair a d))
+
+-- ---- answers
+
+abbrev pub at_start : List QualifiedName → Progress
+at_start symbols = record { calls = 0; symbols = symbols }
+
+-- each live object under its own name
+abbrev pub live_scope : {S : Type 0} → Objects S → Scope
+live_scope objects = map (λ o. record { name = o.0; kind = Stobj o.0 }) objects
 
 module _ (k : Limits) (s : Session) where
-  abbrev pub at_start : Progress
-  at_start = record { calls = 0; symbols = s.symbols }
-
   abbrev pub with_symbols : Progress → Session
   with_symbols p = record s { symbols = p.symbols }
 
-  abbrev pub outcome : Session → Answered → ℕ → Outcome
-  outcome after answer calls = record { session = after; answer = answer; calls = calls }
+  -- an answer before a form was evaluated: each call that was counted is an outer one
+  abbrev pub outcome : Session → Answered ℕ → ℕ → Outcome
+  outcome after answer calls = record { session = after; answer = answer; calls = calls; outer = calls }
 
   -- an answer that counts nothing and changes nothing
-  abbrev pub at_once : Answered → Outcome
+  abbrev pub at_once : Answered ℕ → Outcome
   at_once answer = outcome s answer 0
 
   -- ---- events
@@ -69,73 +122,48 @@ module _ (k : Limits) (s : Session) where
 
   -- ---- expressions
 
-  abbrev pub live_scope : Scope
-  live_scope = map (λ (o : ℕ × ObjectList ℕ). record { name = o.0; kind = Stobj o.0 }) s.objects
-
   abbrev pub state_session : State ℕ → Session
   state_session state = record s { symbols = state.symbols; objects = state.objects }
 
-  abbrev pub evaluated_outcome : Ended ℕ → Outcome
-  evaluated_outcome (Gives values state) = outcome (state_session state) (Values values) state.calls
-  evaluated_outcome (Stops stop inside state) = outcome (state_session state) (Stopped stop inside) state.calls
-  evaluated_outcome Unknown = at_once (Stopped Depth None)
+  -- after so many calls of the expansion
+  abbrev pub state_outcome : ℕ → State ℕ → Answered ℕ → Outcome
+  state_outcome used state answer = record { session = state_session state; answer = answer; calls = state.calls; outer = used + state.outer }
+
+  abbrev pub evaluated_outcome : ℕ → Ended ℕ → Outcome
+  evaluated_outcome used (Gives values state) = state_outcome used state (Values values)
+  evaluated_outcome used (Stops stop inside state) = state_outcome used state (Stopped stop inside)
+  evaluated_outcome used Unknown = at_once (Stopped Depth None)
 
   abbrev pub core_outcome : Core → Progress → Option Fault → Outcome
   core_outcome f p (Some fault) = outcome (with_symbols p) (Refused (Thread fault)) p.calls
   core_outcome f p None =
-      evaluated_outcome (checked s.standing.world s.standing.packages k.steps k.depth f (live s.objects) (begun p.symbols s.objects p.calls))
+      evaluated_outcome p.calls (checked s.standing.world s.standing.packages k.steps k.depth f (live s.objects) (begun p.symbols s.objects p.calls))
 
   abbrev pub expanded_outcome : Expanded Core → Outcome
-  expanded_outcome (Makes f p) = core_outcome f p (expression_fault s.standing.world live_scope f)
+  expanded_outcome (Makes f p) = core_outcome f p (expression_fault s.standing.world (live_scope s.objects) f)
   expanded_outcome (Fails fault p) = outcome (with_symbols p) (Refused (Expand fault)) p.calls
 
-  abbrev pub expression : Object ℕ → Outcome
-  expression form = expanded_outcome (expanded (setting s.standing k) form at_start)
-
   -- ---- `:SHOW` and `:CELLS`
-
-  abbrev pub bad_shape : ℕ → Outcome
-  bad_shape head = at_once (Refused (Expand (BadShape head)))
-
-  abbrev pub only_symbol : Option (List (Object ℕ)) → Option ℕ
-  only_symbol (Some (o ∷ [])) = symbol o
-  only_symbol os = None
 
   -- the list of a live object
   abbrev pub live_list : ℕ → Option (ObjectList ℕ)
   live_list x = lookup (nat_eq x) s.objects
 
-  abbrev pub shown_outcome : ℕ → Option (ObjectList ℕ) → Outcome
-  shown_outcome head None = bad_shape head
-  shown_outcome head (Some l) = at_once (Show (shown s.symbols l))
-
   abbrev pub all_cells : Objects ℕ → ℕ
   all_cells [] = 0
   all_cells (o ∷ os) = held_cells s.symbols o.1 + all_cells os
 
-  abbrev pub cells_outcome : ℕ → Option (List (Object ℕ)) → Outcome
-  cells_outcome head (Some []) = at_once (Cells (all_cells s.objects))
-  cells_outcome head os = bad_shape head
-
-  abbrev pub keyword_outcome : ℕ → Object ℕ → Outcome
-  keyword_outcome head d =
-      if bytes_eq (name_of s.symbols head) (codes "SHOW") then shown_outcome head (option_and_then live_list (only_symbol (elements d)))
-      else if bytes_eq (name_of s.symbols head) (codes "CELLS") then cells_outcome head (elements d)
-      else at_once (Refused (NotSupported head))
-
   -- ---- all commands
 
-  abbrev pub headed : ℕ → Object ℕ → Outcome
-  headed head d =
-      if among head event_heads then event_outcome (admitted s.standing k head d at_start)
-      else if is_skipped head then at_once Skipped
-      else if is_unsupported head then at_once (Refused (NotSupported head))
-      else if is_keyword s.symbols head then keyword_outcome head d
-      else expression (Pair (Symbol head) d)
+  abbrev pub ways : Ways Outcome
+  ways = record {
+    event = λ head d. event_outcome (admitted s.standing k head d (at_start s.symbols));
+    skipped = at_once Skipped;
+    refused = λ r. at_once (Refused r);
+    expression = λ form. expanded_outcome (expanded (setting s.standing k) form (at_start s.symbols));
+    show = λ x. option_map (λ l. at_once (Show (shown s.symbols l))) (live_list x);
+    cells = at_once (Cells (all_cells s.objects));
+  }
 
-  -- a pair is a command of its head, whatever stands behind it; any other form is an expression
   unfoldable pub command : Object ℕ → Outcome
-  command (Integer n) = expression (Integer n)
-  command (Symbol x) = expression (Symbol x)
-  command (Text bytes) = expression (Text bytes)
-  command (Pair a d) = option_map_or (λ head. headed head d) (symbol a) (expression (Pair a d))
+  command form = way_of ways s.symbols form

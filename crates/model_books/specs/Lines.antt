@@ -132,7 +132,7 @@ module _ (s : Session) where
   said_lines (Obliged x os) = printed_name x ∷ map obligation_text os
 
   -- the lines of an answer, in the session after the command
-  unfoldable pub answer_lines : Answered → List Bytes
+  unfoldable pub answer_lines : Answered ℕ → List Bytes
   answer_lines (Event said) = said_lines said
   answer_lines Skipped = codes "Skipped" ∷ []
   answer_lines (Values values) = values_text values ∷ []
@@ -142,7 +142,7 @@ module _ (s : Session) where
   answer_lines (Stopped stop inside) = stop_text stop inside ∷ []
 
 -- a command that was refused or stopped
-abbrev pub is_error : Answered → Bool
+abbrev pub is_error : {S : Type 0} → Answered S → Bool
 is_error (Event said) = false
 is_error Skipped = false
 is_error (Values values) = false

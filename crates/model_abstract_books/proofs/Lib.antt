@@ -1,0 +1,2 @@
+pub mod RowDoubled
+pub mod RowStopping

@@ -1,0 +1,17 @@
+//! Commands as abstract evaluation answers them: definitions, and laws computed on books.
+#![tactic(auto)]
+
+ghost use Rattle.model_abstract_books.specs.Rows.{Doubled, Stopping};
+
+/// A book whose abstract object holds a number and whose foundation holds its double: what is written, and that every answer
+/// is that of abstract evaluation with as many calls.
+#[tactic(auto, using(crate::proofs::RowDoubled::is_computed))]
+pub fn doubled()
+    ensures { Doubled }
+{}
+
+/// A book that stops inside an export: up to there the answers are those of abstract evaluation.
+#[tactic(auto, using(crate::proofs::RowStopping::is_computed))]
+pub fn stopping()
+    ensures { Stopping }
+{}
