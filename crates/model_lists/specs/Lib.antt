@@ -4,3 +4,4 @@ pub mod Layouts
 pub mod Normal
 pub mod Logical
 pub mod Generated
+pub mod Standing
