@@ -6,6 +6,8 @@ pub mod Lists
 pub mod Frame
 pub mod FrameLemmas
 pub mod BudgetLemmas
+pub mod Kept
+pub mod AbstractBudgetLemmas
 pub mod OpeningLemmas
 pub mod Cut
 pub mod CutLemmas

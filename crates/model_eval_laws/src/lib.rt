@@ -3,7 +3,7 @@
 
 ghost use Rattle.model_eval_laws.specs.Laws.{AgreesUntilLimit, KeepsOutcomes};
 ghost use Rattle.model_eval_laws.specs.Counting.{CountsCalls};
-ghost use Rattle.model_eval_laws.specs.Budgets.{IsSameAtLargerBudgets};
+ghost use Rattle.model_eval_laws.specs.Budgets.{IsSameAtLargerBudgets, AbstractBudgetsAgree};
 ghost use Rattle.model_eval_laws.specs.Cutting.{IsCut};
 ghost use Rattle.model_eval_laws.specs.Opening.{OpensForms};
 ghost use Rattle.model_eval_laws.specs.Scope.{LeavesOthers};
@@ -38,6 +38,12 @@ pub fn other_objects_are_left()
 #[tactic(auto, using(crate::proofs::BudgetLemmas::is_same_at_larger_budgets))]
 pub fn larger_budgets_give_the_same()
     ensures { IsSameAtLargerBudgets }
+{}
+
+/// An outcome of abstract evaluation, and the list of a new object, are the same at every larger budget.
+#[tactic(auto, using(crate::proofs::AbstractBudgetLemmas::abstract_budgets_agree))]
+pub fn abstract_budgets_agree()
+    ensures { AbstractBudgetsAgree }
 {}
 
 /// No more forms are open at once than the limit.
