@@ -1,2 +1,3 @@
 pub mod RowDoubled
 pub mod RowStopping
+pub mod BudgetLemmas
