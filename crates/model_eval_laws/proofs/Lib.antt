@@ -2,6 +2,7 @@ pub mod Agree
 pub mod LimitLemmas
 pub mod Counts
 pub mod CountLemmas
+pub mod AbstractCountLemmas
 pub mod Lists
 pub mod Frame
 pub mod FrameLemmas

@@ -2,7 +2,7 @@
 #![tactic(auto)]
 
 ghost use Rattle.model_eval_laws.specs.Laws.{AgreesUntilLimit, KeepsOutcomes};
-ghost use Rattle.model_eval_laws.specs.Counting.{CountsCalls};
+ghost use Rattle.model_eval_laws.specs.Counting.{CountsCalls, AbstractCountsCalls};
 ghost use Rattle.model_eval_laws.specs.Budgets.{IsSameAtLargerBudgets, AbstractBudgetsAgree};
 ghost use Rattle.model_eval_laws.specs.Cutting.{IsCut};
 ghost use Rattle.model_eval_laws.specs.Opening.{OpensForms};
@@ -26,6 +26,12 @@ pub fn growing_worlds_keep_outcomes()
 #[tactic(auto, using(crate::proofs::CountLemmas::counts_calls))]
 pub fn calls_are_counted()
     ensures { CountsCalls }
+{}
+
+/// The same of abstract evaluation, where it has an outcome.
+#[tactic(auto, using(crate::proofs::AbstractCountLemmas::abstract_counts_calls))]
+pub fn abstract_calls_are_counted()
+    ensures { AbstractCountsCalls }
 {}
 
 /// An evaluation does not depend on the objects that no variable has, and leaves them as they are.
