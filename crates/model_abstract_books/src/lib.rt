@@ -2,7 +2,7 @@
 #![tactic(auto)]
 
 ghost use Rattle.model_abstract_books.specs.Rows.{Doubled, Stopping};
-ghost use Rattle.model_abstract_books.specs.Laws.{AnswersAreDetermined};
+ghost use Rattle.model_abstract_books.specs.Laws.{AnswersAreDetermined, AnswersKeepLists, AnswersCountWithin};
 
 /// A book whose abstract object holds a number and whose foundation holds its double: what is written, and that every answer
 /// is that of abstract evaluation with as many calls.
@@ -21,4 +21,16 @@ pub fn stopping()
 #[tactic(auto, using(crate::proofs::BudgetLemmas::answers_are_determined))]
 pub fn abstract_answers_are_determined()
     ensures { AnswersAreDetermined }
+{}
+
+/// Only an evaluation changes a list that is there; an event only adds, and a refusal keeps all.
+#[tactic(auto, using(crate::proofs::AnswerLemmas::answers_keep_lists))]
+pub fn abstract_answers_keep_lists()
+    ensures { AnswersKeepLists }
+{}
+
+/// Where events and expansion count calls within the limit, so does each answer.
+#[tactic(auto, using(crate::proofs::AnswerLemmas::answers_count_within))]
+pub fn abstract_answers_count_within()
+    ensures { AnswersCountWithin }
 {}
