@@ -1,2 +1,5 @@
 pub mod RowDoubled
 pub mod RowStopping
+pub mod BudgetLemmas
+pub mod WayLemmas
+pub mod AnswerLemmas

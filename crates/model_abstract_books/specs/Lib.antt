@@ -2,3 +2,4 @@ pub mod Answers
 pub mod Commands
 pub mod Books
 pub mod Rows
+pub mod Laws

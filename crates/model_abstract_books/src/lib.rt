@@ -1,7 +1,8 @@
-//! Commands as abstract evaluation answers them: definitions, and laws computed on books.
+//! Commands as abstract evaluation answers them: definitions, their laws, and laws computed on books.
 #![tactic(auto)]
 
 ghost use Rattle.model_abstract_books.specs.Rows.{Doubled, Stopping};
+ghost use Rattle.model_abstract_books.specs.Laws.{AnswersAreDetermined, AnswersKeepLists, AnswersCountWithin};
 
 /// A book whose abstract object holds a number and whose foundation holds its double: what is written, and that every answer
 /// is that of abstract evaluation with as many calls.
@@ -14,4 +15,22 @@ pub fn doubled()
 #[tactic(auto, using(crate::proofs::RowStopping::is_computed))]
 pub fn stopping()
     ensures { Stopping }
+{}
+
+/// An answer is the same at every larger budget, and is one at most.
+#[tactic(auto, using(crate::proofs::BudgetLemmas::answers_are_determined))]
+pub fn abstract_answers_are_determined()
+    ensures { AnswersAreDetermined }
+{}
+
+/// Only an evaluation changes a list that is there; an event only adds, and a refusal keeps all.
+#[tactic(auto, using(crate::proofs::AnswerLemmas::answers_keep_lists))]
+pub fn abstract_answers_keep_lists()
+    ensures { AnswersKeepLists }
+{}
+
+/// Where events and expansion count calls within the limit, so does each answer.
+#[tactic(auto, using(crate::proofs::AnswerLemmas::answers_count_within))]
+pub fn abstract_answers_count_within()
+    ensures { AnswersCountWithin }
 {}

@@ -10,7 +10,7 @@ use Rattle.model_eval.specs.Logic.{Book, Thing, Values, Found, then_found, found
 use Rattle.model_eval_laws.specs.Budgets.{IsSameAtLargerBudgets}
 
 -- the second is the first, where the first is a value
-abbrev More : Option Found → Option Found → Type 0
+abbrev pub More : Option Found → Option Found → Type 0
 More None y = Unit {0}
 More (Some f) y = y ≡ Some f
 
@@ -37,7 +37,7 @@ module _ (b : Book) (k l : ℕ) (larger : k ≤ l) where
       by_test true e = rw (within_larger (calls + n) k l larger e) (h (calls + n))
       by_test false e = tt
 
-  abbrev CallMore : Caller → Caller → Type 0
+  abbrev pub CallMore : Caller → Caller → Type 0
   CallMore call to = (name : ℕ) (args : List Thing) (n : ℕ) → More (call name args n) (to name args n)
 
   module _ (call to : Caller) (c : CallMore call to) where
@@ -89,7 +89,7 @@ module _ (b : Book) (k l : ℕ) (larger : k ≤ l) where
     more_abstract : (name : ℕ) (args : List Thing) (n : ℕ) → More (logic_of_abstract b k call name args n) (logic_of_abstract b l to name args n)
     more_abstract name args n = more_defined _ _ (λ logic os m. tt) (definition b.world name) args n
 
-  more_call : (n m : ℕ) → n ≤ m → CallMore (call_within b k n) (call_within b l m)
+  pub more_call : (n m : ℕ) → n ≤ m → CallMore (call_within b k n) (call_within b l m)
   unfolding call_within
   more_call zero m h name args calls = tt
   more_call (suc n) zero h name args calls = absurd (omega arith)

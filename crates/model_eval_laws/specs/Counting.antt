@@ -6,6 +6,9 @@ use Rattle.model_terms.specs.Worlds.{World}
 use Rattle.model_eval.specs.Outcomes.{Objects, State, Ended, Gives, Stops, Unknown}
 use Rattle.model_eval.specs.Scopes.{Variables}
 use Rattle.model_eval.specs.Checked.{checked}
+use Rattle.model_eval.specs.Logic.{Book}
+use Rattle.model_eval.specs.AbstractRules.{abstractly}
+use Rattle.model_eval_laws.specs.Budgets.{HasOutcome}
 use Rattle.model_eval_laws.specs.Laws.{IsSteps}
 
 -- a later state: calls never fall and do not pass the limit, outer calls are calls, and symbols are only added
@@ -34,3 +37,10 @@ pub record CountsCalls : Type 0 where
   -- where no call is left, the lists are those of that moment
   pub cut : (w : World) (packages : List Package) (k d : ℕ) (form : Core) (variables : Variables ℕ) (state : State ℕ) → k ≤ state.calls
       → HasObjects state.objects (checked w packages k d form variables state)
+
+-- the same of abstract evaluation, where it has an outcome
+pub record AbstractCountsCalls : Type 0 where
+  pub counts : (b : Book) (budget k d : ℕ) (form : Core) (variables : Variables QualifiedName) (state : State QualifiedName) → HasOutcome (abstractly b budget k d form variables state)
+      → Counts k state (abstractly b budget k d form variables state)
+  pub cut : (b : Book) (budget k d : ℕ) (form : Core) (variables : Variables QualifiedName) (state : State QualifiedName) → k ≤ state.calls
+      → HasObjects state.objects (abstractly b budget k d form variables state)

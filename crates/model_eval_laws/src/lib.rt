@@ -2,8 +2,8 @@
 #![tactic(auto)]
 
 ghost use Rattle.model_eval_laws.specs.Laws.{AgreesUntilLimit, KeepsOutcomes};
-ghost use Rattle.model_eval_laws.specs.Counting.{CountsCalls};
-ghost use Rattle.model_eval_laws.specs.Budgets.{IsSameAtLargerBudgets};
+ghost use Rattle.model_eval_laws.specs.Counting.{CountsCalls, AbstractCountsCalls};
+ghost use Rattle.model_eval_laws.specs.Budgets.{IsSameAtLargerBudgets, AbstractBudgetsAgree};
 ghost use Rattle.model_eval_laws.specs.Cutting.{IsCut};
 ghost use Rattle.model_eval_laws.specs.Opening.{OpensForms};
 ghost use Rattle.model_eval_laws.specs.Scope.{LeavesOthers};
@@ -28,6 +28,12 @@ pub fn calls_are_counted()
     ensures { CountsCalls }
 {}
 
+/// The same of abstract evaluation, where it has an outcome.
+#[tactic(auto, using(crate::proofs::AbstractCountLemmas::abstract_counts_calls))]
+pub fn abstract_calls_are_counted()
+    ensures { AbstractCountsCalls }
+{}
+
 /// An evaluation does not depend on the objects that no variable has, and leaves them as they are.
 #[tactic(auto, using(crate::proofs::FrameLemmas::leaves_others))]
 pub fn other_objects_are_left()
@@ -38,6 +44,12 @@ pub fn other_objects_are_left()
 #[tactic(auto, using(crate::proofs::BudgetLemmas::is_same_at_larger_budgets))]
 pub fn larger_budgets_give_the_same()
     ensures { IsSameAtLargerBudgets }
+{}
+
+/// An outcome of abstract evaluation, and the list of a new object, are the same at every larger budget.
+#[tactic(auto, using(crate::proofs::AbstractBudgetLemmas::abstract_budgets_agree))]
+pub fn abstract_budgets_agree()
+    ensures { AbstractBudgetsAgree }
 {}
 
 /// No more forms are open at once than the limit.

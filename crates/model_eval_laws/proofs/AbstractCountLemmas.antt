@@ -1,0 +1,127 @@
+-- Abstract evaluation counts: its outcomes are those of rules that know every list and value.
+use Rattle.std.proofs.Common.{ℕ, ◌≤◌, List, [], Option, Some, None, refl, subst}
+use Rattle.std.specs.Prelude.{nat_le, ℤ, unwrap_or}
+use Rattle.model_objects.specs.Object.{weight, max_weight}
+use Rattle.model_symbols.specs.Symbols.{QualifiedName, Package}
+use Rattle.model_prims.specs.Kinds.{by_name}
+use Rattle.model_prims.specs.Numbers.{in_range, power_in_range, shift_in_range}
+use Rattle.model_prims.specs.Lists.{updated}
+use Rattle.model_prims.specs.Values.{Wanted, Old, Number, Made, Power, Shift, Update, Interned, wanted}
+use Rattle.model_prims.specs.Guards.{guard}
+use Rattle.model_prims.specs.Applied.{argument}
+use Rattle.model_prims.specs.declared.prim.Prim.{Prim}
+use Rattle.model_lists.specs.Lists.{ObjectList, End}
+use Rattle.model_terms.specs.Cores.{Core}
+use Rattle.model_terms.specs.Worlds.{FunctionOfAbstract}
+use Rattle.model_eval.specs.Outcomes.{Shown, Guard, State, Ended, Gives, Stops, Unknown, Objects}
+use Rattle.model_eval.specs.Scopes.{Variables, ordinary}
+use Rattle.model_eval.specs.Evaluated.{Rules, evaluated}
+use Rattle.model_eval.specs.Logic.{Book, Thing}
+use Rattle.model_eval.specs.AbstractRules.{gives_number, gives_weighed, bounded_value, abstract_applied, abstract_primitive, abstract_export, abstract_rules, abstractly}
+use Rattle.model_eval_laws.specs.Budgets.{HasOutcome}
+use Rattle.model_eval_laws.specs.Counting.{Counts, HasObjects, AbstractCountsCalls}
+use Rattle.model_eval_laws.proofs.Counts.{grown_same, grown_objects, counts_if, RulesCount, counts_evaluated, stays_evaluated}
+use Rattle.model_eval_laws.proofs.Kept.{Kept, ListKept, Keeps, fuller_rules, kept_evaluated}
+
+-- ---- primitives
+
+module _ (limit f : ℕ) (state : State QualifiedName) where
+  counts_number : (packages : List Package) (n : Option ℤ) → Counts limit state (gives_number packages f state n)
+  counts_number packages None = (grown_same limit state, λ q. absurd q)
+  counts_number packages (Some n) = grown_same limit state
+
+  counts_weighed : (packages : List Package) (o : Thing) → Counts limit state (gives_weighed packages f state o)
+  counts_weighed packages o = counts_if limit state (nat_le (weight o) max_weight) _ _ (grown_same limit state) (grown_same limit state, λ q. absurd q)
+
+  counts_bounded : (packages : List Package) (w : Wanted QualifiedName) → Counts limit state (bounded_value packages f state w)
+  unfolding bounded_value
+  counts_bounded packages (Old o) = grown_same limit state
+  counts_bounded packages (Number n) = counts_number packages (in_range n)
+  counts_bounded packages (Made o) = counts_weighed packages o
+  counts_bounded packages (Power b n) = counts_number packages (power_in_range b n)
+  counts_bounded packages (Shift i c) = counts_number packages (shift_in_range i c)
+  counts_bounded packages (Update n o l) =
+      counts_if limit state (nat_le n max_weight) _ _ (counts_weighed packages (updated by_name n o l)) (grown_same limit state, λ q. absurd q)
+  counts_bounded packages (Interned name s) = grown_same limit state
+
+  counts_refused : (values : List (Shown QualifiedName)) → Counts limit state (Stops (Guard f values) None state)
+  counts_refused values = (grown_same limit state, λ q. absurd q)
+
+  counts_applied : (packages : List Package) (p : Prim) (values : List (Shown QualifiedName)) (x y z : Thing) → Counts limit state (abstract_applied packages f state p values x y z)
+  counts_applied packages p values x y z =
+      counts_if limit state (guard by_name p x y z) _ (Stops (Guard f values) None state) (counts_bounded packages (wanted by_name (λ s. s) p x y z)) (counts_refused values)
+
+  counts_primitive : (packages : List Package) (p : Prim) (values : List (Shown QualifiedName)) → Counts limit state (abstract_primitive packages f p values state)
+  counts_primitive packages p values =
+      let args = ordinary values in
+      counts_applied packages p values (argument by_name args 0) (argument by_name args 1) (argument by_name args 2)
+
+-- ---- rules that know all
+
+-- an outcome, whatever is not known
+abbrev known_or : State QualifiedName → Ended QualifiedName → Ended QualifiedName
+known_or state (Gives values after) = Gives values after
+known_or state (Stops stop inside after) = Stops stop inside after
+known_or state Unknown = Gives [] state
+
+kept_known : (state : State QualifiedName) (r : Ended QualifiedName) → Kept r (known_or state r)
+kept_known state (Gives values after) = refl
+kept_known state (Stops stop inside after) = refl
+kept_known state Unknown = tt
+
+kept_list_or : (x : Option (ObjectList QualifiedName)) → ListKept x (Some (unwrap_or x End))
+kept_list_or None = tt
+kept_list_or (Some l) = refl
+
+module _ (b : Book) (budget k : ℕ) where
+  abbrev known_fresh : ℕ → Option (ObjectList QualifiedName)
+  known_fresh x = Some (unwrap_or ((abstract_rules b budget k).fresh x) End)
+
+  abbrev known_export : FunctionOfAbstract → List (Shown QualifiedName) → (State QualifiedName → Ended QualifiedName) → State QualifiedName → Ended QualifiedName
+  known_export f values exec state = known_or state ((abstract_rules b budget k).export f values exec state)
+
+  abbrev known_rules : Rules QualifiedName
+  known_rules = fuller_rules (abstract_rules b budget k) known_fresh known_export
+
+  known_keep : Keeps (abstract_rules b budget k) known_fresh known_export
+  known_keep = record {
+    freshly = λ x. kept_list_or ((abstract_rules b budget k).fresh x);
+    exports = λ f values go to h state. kept_known state ((abstract_rules b budget k).export f values go state);
+  }
+
+  counts_export : (f : FunctionOfAbstract) (values : List (Shown QualifiedName)) (state : State QualifiedName) (v : Option Thing) → Counts k state (known_or state (abstract_export b budget f values state v))
+  counts_export f values state None = grown_same k state
+  counts_export f values state (Some v) = grown_objects k state state _ _ (grown_same k state)
+
+  known_count : RulesCount known_rules
+  known_count = record {
+    primitives = λ f p values state. counts_primitive k f state b.packages p values;
+    exports = λ f values go h state. counts_export f values state _;
+    known = λ x. (_, refl);
+  }
+
+-- ---- the laws
+
+counts_kept : (k : ℕ) (state : State QualifiedName) (r s : Ended QualifiedName) → Kept r s → Counts k state s → HasOutcome r → Counts k state r
+counts_kept k state (Gives values after) s e c h = subst (Counts k state) e c
+counts_kept k state (Stops stop inside after) s e c h = subst (Counts k state) e c
+counts_kept k state Unknown s e c h = absurd h
+
+objects_kept : (objects : Objects QualifiedName) (r s : Ended QualifiedName) → Kept r s → HasObjects objects s → HasObjects objects r
+objects_kept objects (Gives values after) s e h = subst (HasObjects objects) e h
+objects_kept objects (Stops stop inside after) s e h = subst (HasObjects objects) e h
+objects_kept objects Unknown s e h = tt
+
+module _ (b : Book) (budget k d : ℕ) (form : Core) (variables : Variables QualifiedName) (state : State QualifiedName) where
+  known_kept : Kept (abstractly b budget k d form variables state) (evaluated (known_rules b budget k) d form variables state)
+  known_kept = kept_evaluated (abstract_rules b budget k) _ _ (known_keep b budget k) d form variables state
+
+  counts_abstractly : HasOutcome (abstractly b budget k d form variables state) → Counts k state (abstractly b budget k d form variables state)
+  counts_abstractly = counts_kept k state _ _ known_kept (counts_evaluated (known_rules b budget k) (known_count b budget k) d form variables state)
+
+  stays_abstractly : k ≤ state.calls → HasObjects state.objects (abstractly b budget k d form variables state)
+  stays_abstractly h =
+      objects_kept state.objects _ _ known_kept (stays_evaluated (known_rules b budget k) (known_count b budget k) d form variables state h)
+
+pub abstract_counts_calls : AbstractCountsCalls
+abstract_counts_calls = record { counts = counts_abstractly; cut = stays_abstractly }
