@@ -11,16 +11,13 @@ use Rattle.model_terms.specs.Worlds.{MacroFormals, Definition, Macro, definition
 use Rattle.model_eval.specs.Outcomes.{Steps, Ended, Gives, Stops, Unknown}
 use Rattle.model_eval.specs.Checked.{begun}
 use Rattle.model_eval_laws.specs.Counting.{Counts}
-use Rattle.model_eval_laws.proofs.Counts.{not_less}
+use Rattle.model_eval_laws.proofs.Counts.{longer_then, not_less}
 use Rattle.model_eval_laws.proofs.CountLemmas.{counts_calls}
 use Rattle.model_expansion.specs.Forms.{elements}
 use Rattle.model_expansion.specs.Faults.{ExpandFault, MacroArgs, BadShape, MacroStopped, Arity}
 use Rattle.model_expansion.specs.Layers.{Row, core_row, macro_row, CallNode, GuardItem, Holds, Meets, Part, Form, Ready, Rest, Guard, Found, Leaf, Node, Made, Again, Stays, made_of}
 use Rattle.model_expansion.specs.Expansion.{deepest_core, Setting, Progress, Expanded, Makes, Fails, then_make, counting, macro_values, Look, Stands, Bad, Use, UserUse, Settle, settles, out_of_steps, again, core_look, call_look, arity_of, function_look, defined_look, macro_look, headed_look, list_look, look_at, built, body_value, used, looked, settled, settle, row_found, head_fault, if_room, ready_fault, ready_faults, ready_found, ready, guard_found, part_found, Grow, grown_all, grown_found, grown}
 use Rattle.model_expansion_laws.specs.Counting.{Advanced, IsOutOfSteps, Advances, ExpansionCounts}
-
-longer_then : (a b c : List QualifiedName) → (xs : List QualifiedName) × (b ≡ a ++ xs) → (ys : List QualifiedName) × (c ≡ b ++ ys) → (zs : List QualifiedName) × (c ≡ a ++ zs)
-longer_then a b c x y = (x.0 ++ y.0, y.1 ∙ (ap (λ (l : List QualifiedName). l ++ y.0) x.1 ∙ append_assoc a x.0 y.0))
 
 module _ (limit : ℕ) where
   -- ---- progress
