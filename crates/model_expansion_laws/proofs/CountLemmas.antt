@@ -1,8 +1,8 @@
 -- An expansion counts uses and calls up to its limit.
-use Rattle.std.proofs.Common.{◌≡◌, ℕ, zero, suc, ◌+◌, ◌-◌, ◌<◌, ◌≤◌, List, [], ◌∷◌, ◌++◌, Bool, true, false, Option, Some, None, refl, sym, ap, ◌∙◌, arith}
+use Rattle.std.proofs.Common.{◌≡◌, ℕ, zero, suc, ◌+◌, ◌-◌, ◌<◌, ◌≤◌, List, [], ◌∷◌, ◌++◌, Bool, true, false, Option, Some, None, refl, sym, arith}
 use Rattle.std.specs.Prelude.{nat_lt, nat_eq, if◌then◌else◌, option_and_then, map, length}
 use Rattle.std.specs.Option.{option_or}
-use Rattle.std.proofs.lemmas.List.{append_assoc, append-nil}
+use Rattle.std.proofs.lemmas.List.{append-nil}
 use Rattle.std.proofs.lemmas.Bool.{ltb-true}
 use Rattle.model_objects.specs.Object.{Object, Integer, Symbol, Text, Pair}
 use Rattle.model_symbols.specs.Symbols.{QualifiedName}
@@ -168,7 +168,8 @@ module _ (x : Setting) where
 module _ (x : Setting) where
   -- ---- one place
 
-  abbrev shaped : ℕ → Progress → Option Made → Expanded Made
+  -- what is made of a shape, and of the values of a macro's formals
+  abbrev pub shaped : ℕ → Progress → Option Made → Expanded Made
   shaped s p None = Fails (BadShape s) p
   shaped s p (Some m) = Makes m p
 
@@ -179,7 +180,7 @@ module _ (x : Setting) where
   advances_built : (s : ℕ) (row : Row) (d : Object ℕ) (p : Progress) → Advances x.steps p (built x s row d p)
   advances_built s row d p = advances_shaped s p (option_and_then (made_of p.symbols row) (elements d))
 
-  abbrev with_values : ℕ → MacroFormals → Core → Progress → Option (List (Object ℕ)) → Expanded Made
+  abbrev pub with_values : ℕ → MacroFormals → Core → Progress → Option (List (Object ℕ)) → Expanded Made
   with_values s formals body p None = Fails (MacroArgs s) p
   with_values s formals body p (Some values) = again (body_value x formals body values p)
 

@@ -1,7 +1,7 @@
-//! Laws of expansion: what the tests of types say, what comes first, and what is counted.
+//! Laws of expansion: what the tests of types say, what comes first, what is counted, and how deep core forms are.
 #![tactic(auto)]
 
-ghost use Rattle.model_expansion_laws.specs.Counting.{ExpansionCounts};
+ghost use Rattle.model_expansion_laws.specs.Counting.{CoresAreNotTooDeep, ExpansionCounts};
 ghost use Rattle.model_expansion_laws.specs.Depth.{DepthComesFirst};
 ghost use Rattle.model_expansion_laws.specs.Tests.{TestsSay};
 
@@ -21,4 +21,10 @@ pub fn depth_comes_first()
 #[tactic(auto, using(crate::proofs::CountLemmas::expansion_counts))]
 pub fn expansion_counts_calls()
     ensures { ExpansionCounts }
+{}
+
+/// No core form that an expansion makes is too deep.
+#[tactic(auto, using(crate::proofs::NestingLemmas::cores_are_not_too_deep))]
+pub fn cores_are_not_too_deep()
+    ensures { CoresAreNotTooDeep }
 {}
