@@ -1,1 +1,4 @@
 pub mod Computed
+pub mod AnswerLemmas
+pub mod EventLemmas
+pub mod CommandLemmas

@@ -1,3 +1,4 @@
 pub mod WordRows
 pub mod BookRows
 pub mod TypeTests
+pub mod Counting

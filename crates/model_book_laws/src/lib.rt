@@ -1,7 +1,8 @@
-//! Laws of books: the program's words, the generated book, and the tests of types.
+//! Laws of books: the program's words, the generated book, the tests of types, and what commands count.
 #![tactic(auto)]
 
 ghost use Rattle.model_book_laws.specs.BookRows.{BooksAreGenerated};
+ghost use Rattle.model_book_laws.specs.Counting.{CommandsCount};
 ghost use Rattle.model_book_laws.specs.TypeTests.{TestsAreRight};
 ghost use Rattle.model_book_laws.specs.WordRows.{WordsAreRight, word_rows};
 ghost use Rattle.model_eval_rows.specs.Types.{type_rows};
@@ -22,4 +23,10 @@ pub fn generated_books()
 #[tactic(auto, using(crate::proofs::Computed::type_tests))]
 pub fn type_tests()
     ensures { TestsAreRight type_rows }
+{}
+
+/// The calls of a command never pass the limit, its outer calls are among them, and symbols are only added.
+#[tactic(auto, using(crate::proofs::CommandLemmas::commands_count))]
+pub fn commands_count_calls()
+    ensures { CommandsCount }
 {}

@@ -20,7 +20,7 @@ use Rattle.model_eval.specs.Children.{Loan, is_reached, loan_values, indices, ar
 use Rattle.model_eval.specs.Evaluated.{Rules, Evaluator, is_false, scoped, guarded, of_abstract, by_definition, exec_called, called, in_order, leaf, leaf_or, loan_of, borrowing, borrowed_from, borrowed, all_borrowed, put_back, lending, loaned_variables, producing, with_loans, with_fresh, opened, evaluated, stobj_let_word}
 use Rattle.model_eval_laws.specs.Counting.{Grown, Counts, HasObjects}
 
-longer_then : (a b c : List QualifiedName) → (xs : List QualifiedName) × (b ≡ a ++ xs) → (ys : List QualifiedName) × (c ≡ b ++ ys) → (zs : List QualifiedName) × (c ≡ a ++ zs)
+pub longer_then : (a b c : List QualifiedName) → (xs : List QualifiedName) × (b ≡ a ++ xs) → (ys : List QualifiedName) × (c ≡ b ++ ys) → (zs : List QualifiedName) × (c ≡ a ++ zs)
 longer_then a b c x y = (x.0 ++ y.0, y.1 ∙ (ap (λ (l : List QualifiedName). l ++ y.0) x.1 ∙ append_assoc a x.0 y.0))
 
 pub not_less : (n limit : ℕ) → nat_lt n limit ≡ false → limit ≤ n

@@ -1,2 +1,5 @@
 pub mod TestLemmas
 pub mod DepthLemmas
+pub mod CountLemmas
+pub mod LayerLemmas
+pub mod NestingLemmas

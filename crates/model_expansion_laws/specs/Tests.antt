@@ -1,5 +1,5 @@
 -- The test of a type, evaluated where an object stands, is `NIL` exactly where the object does not meet the type.
-use Rattle.std.specs.Prelude.{◌≡◌, ℕ, List, [], ◌∷◌, Bool, true, not, Option, Some}
+use Rattle.std.specs.Prelude.{◌≡◌, ℕ, List, [], ◌∷◌, Bool, true, not, Some}
 use Rattle.model_objects.specs.Object.{Object}
 use Rattle.model_symbols.specs.Symbols.{Package}
 use Rattle.model_prims.specs.Kinds.{by_number, is_nil}
@@ -11,10 +11,10 @@ use Rattle.model_prims.specs.declared.prim.Recognizer.{Recognizer as OneRecogniz
 use Rattle.model_prims.specs.declared.prim.Recognizer.TheVariants as recognizer
 use Rattle.model_prims.specs.declared.prim.Relation.TheVariants as relation
 use Rattle.model_prims.specs.declared.prim.Listing.TheVariants as listing
-use Rattle.model_lists.specs.Types.{ValueType, Anything, Nothing, Integers, Recognized, OneOf, Either, Both, Other, meets, not_word, cons_word, atom_word, null_word}
+use Rattle.model_lists.specs.Types.{ValueType, Anything, Nothing, Integers, Recognized, OneOf, Either, Both, Other, meets, not_word, atom_word, null_word}
 use Rattle.model_terms.specs.Cores.{Core}
-use Rattle.model_terms.specs.Worlds.{World, Definition, Primitive, definition}
-use Rattle.model_eval.specs.Outcomes.{Shown, Plain, Stop, Guard, Steps, Depth, Range, Large, Symbols, State, Ended, Gives, Stops, Unknown}
+use Rattle.model_terms.specs.Worlds.{World, Primitive, definition}
+use Rattle.model_eval.specs.Outcomes.{Plain, Stop, Guard, Steps, Depth, Range, Large, Symbols, State, Ended, Gives, Stops, Unknown}
 use Rattle.model_eval.specs.Scopes.{Variables}
 use Rattle.model_eval.specs.Evaluated.{leaf}
 use Rattle.model_eval.specs.Checked.{checked, checked_rules}

@@ -1,6 +1,7 @@
-//! Laws of expansion: what the tests of types say, and what comes first.
+//! Laws of expansion: what the tests of types say, what comes first, what is counted, and how deep core forms are.
 #![tactic(auto)]
 
+ghost use Rattle.model_expansion_laws.specs.Counting.{CoresAreNotTooDeep, ExpansionCounts};
 ghost use Rattle.model_expansion_laws.specs.Depth.{DepthComesFirst};
 ghost use Rattle.model_expansion_laws.specs.Tests.{TestsSay};
 
@@ -14,4 +15,16 @@ pub fn tests_say_what_types_mean()
 #[tactic(auto, using(crate::proofs::DepthLemmas::depth_comes_first))]
 pub fn depth_comes_first()
     ensures { DepthComesFirst }
+{}
+
+/// Calls never fall and never pass the limit, symbols are only added, and a fault at the limit has counted exactly so many.
+#[tactic(auto, using(crate::proofs::CountLemmas::expansion_counts))]
+pub fn expansion_counts_calls()
+    ensures { ExpansionCounts }
+{}
+
+/// No core form that an expansion makes is too deep.
+#[tactic(auto, using(crate::proofs::NestingLemmas::cores_are_not_too_deep))]
+pub fn cores_are_not_too_deep()
+    ensures { CoresAreNotTooDeep }
 {}
