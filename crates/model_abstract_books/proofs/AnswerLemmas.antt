@@ -14,12 +14,16 @@ use Rattle.model_eval_laws.specs.Budgets.{HasOutcome}
 use Rattle.model_eval_laws.specs.Counting.{Counts}
 use Rattle.model_eval_laws.proofs.AbstractCountLemmas.{abstract_counts_calls}
 use Rattle.model_expansion.specs.Expansion.{Progress, Expanded, Makes, Fails, expanded}
+use Rattle.model_expansion_laws.specs.Counting.{Advances}
+use Rattle.model_expansion_laws.proofs.CountLemmas.{expansion_counts}
+use Rattle.model_book_laws.proofs.AnswerLemmas.{Answers}
+use Rattle.model_book_laws.proofs.EventLemmas.{answers_admitted}
 use Rattle.model_stobjs.specs.Answers.{Answer, Grants, Refuses, Halts}
 use Rattle.model_events.specs.Events.{Limits, Admitted, setting, admitted}
 use Rattle.model_books.specs.Opening.{Session}
 use Rattle.model_books.specs.Commands.{Event, Show, at_start, live_scope}
 use Rattle.model_abstract_books.specs.Commands.{Lists, AbstractOutcome, book_of, with_value, at_once, created_outcome, event_outcome, evaluated_outcome, begun, core_outcome, expanded_outcome, shown_object, live_list, ways, abstract_command}
-use Rattle.model_abstract_books.specs.Laws.{KeepsLists, AnswersKeepLists, AnswerWithin, ExpandedWithin, CountsWithin, AnswersCountWithin}
+use Rattle.model_abstract_books.specs.Laws.{KeepsLists, AnswersKeepLists, AnswersCountWithin}
 use Rattle.model_abstract_books.proofs.WayLemmas.{ShowHolds, AllWays, way_holds}
 
 -- ---- lists
@@ -96,10 +100,10 @@ module _ (k : Limits) where
     within_made a p None h = h
     within_made a p (Some x) h = within_value (abstract_fresh (book_of a.standing p.symbols) m x) _ (λ l. h)
 
-    within_event : (a : Answer Admitted) → AnswerWithin k.steps a → Within (event_outcome m k s lists a)
-    within_event (Grants a p) h = within_made a p a.created h
-    within_event (Refuses r p) h = h
-    within_event (Halts stop inside p) h = h
+    within_event : (a : Answer Admitted) → Answers k.steps (at_start s.symbols) a → Within (event_outcome m k s lists a)
+    within_event (Grants a p) h = within_made a p a.created (h.within (omega arith))
+    within_event (Refuses r p) h = h.within (omega arith)
+    within_event (Halts stop inside p) h = h.within (omega arith)
 
     within_evaluated : (p : Progress) (r : Ended QualifiedName) → p.calls ≤ k.steps → (HasOutcome r → Counts k.steps (begun m k s lists p) r) → Within (evaluated_outcome m k s lists r)
     within_evaluated p (Gives values state) h c = (c tt).within h
@@ -111,30 +115,30 @@ module _ (k : Limits) where
     within_core f p None h =
         within_evaluated p _ h (abstract_counts_calls.counts (book_of s.standing p.symbols) m k.steps k.depth f (live lists) (begun m k s lists p))
 
-    within_expanded : (x : Expanded Core) → ExpandedWithin k.steps x → Within (expanded_outcome m k s lists x)
-    within_expanded (Makes f p) h = within_core f p (expression_fault s.standing.world (live_scope lists) f) h
-    within_expanded (Fails fault p) h = h
+    within_expanded : (x : Expanded Core) → Advances k.steps (at_start s.symbols) x → Within (expanded_outcome m k s lists x)
+    within_expanded (Makes f p) h = within_core f p (expression_fault s.standing.world (live_scope lists) f) (h.within (omega arith))
+    within_expanded (Fails fault p) h = h.0.within (omega arith)
 
     within_shown : (l : Option (ObjectList QualifiedName)) → ShowHolds Within (ways m k s lists) s.symbols (option_map (λ l. at_once m k s lists (Show (shown_object m k s lists l))) l)
     within_shown None = tt
     within_shown (Some l) = omega arith
 
-    within_ways : CountsWithin k s → AllWays Within (ways m k s lists) s.symbols
-    within_ways c = record {
-      event = λ head d. within_event _ (c.events head d);
+    within_ways : AllWays Within (ways m k s lists) s.symbols
+    within_ways = record {
+      event = λ head d. within_event _ (answers_admitted s.standing k head d (at_start s.symbols));
       skipped = omega arith;
       refused = λ r. omega arith;
-      expression = λ form. within_expanded _ (c.expressions form);
+      expression = λ form. within_expanded _ (expansion_counts.form (setting s.standing k) form (at_start s.symbols));
       show = λ x. within_shown (live_list m k s lists x);
       cells = omega arith;
     }
 
-    within_command : CountsWithin k s → (form : Object ℕ) → Within (abstract_command m k s lists form)
+    within_command : (form : Object ℕ) → Within (abstract_command m k s lists form)
     unfolding abstract_command
-    within_command c form = way_holds Within (ways m k s lists) s.symbols (within_ways c) form
+    within_command form = way_holds Within (ways m k s lists) s.symbols within_ways form
 
   from_within : (x : Option AbstractOutcome) (o : AbstractOutcome) → Within x → x ≡ Some o → o.calls ≤ k.steps
   from_within x o h e = subst Within e h
 
 pub answers_count_within : AnswersCountWithin
-answers_count_within = record { calls = λ m k s lists form o c. from_within k _ o (within_command k m s lists c form) }
+answers_count_within = record { calls = λ m k s lists form o. from_within k _ o (within_command k m s lists form) }

@@ -2,11 +2,9 @@
 use Rattle.std.specs.Prelude.{◌≡◌, ℕ, ◌≤◌, ◌++◌, Some}
 use Rattle.model_objects.specs.Object.{Object}
 use Rattle.model_symbols.specs.Symbols.{QualifiedName}
-use Rattle.model_expansion.specs.Expansion.{Expanded, Makes, Fails, expanded}
-use Rattle.model_stobjs.specs.Answers.{Answer, Grants, Refuses, Halts}
-use Rattle.model_events.specs.Events.{Limits, setting, admitted}
+use Rattle.model_events.specs.Events.{Limits}
 use Rattle.model_books.specs.Opening.{Session}
-use Rattle.model_books.specs.Commands.{Answered, Event, Skipped, Values, Show, Cells, Refused, Stopped, at_start}
+use Rattle.model_books.specs.Commands.{Answered, Event, Skipped, Values, Show, Cells, Refused, Stopped}
 use Rattle.model_abstract_books.specs.Commands.{Lists, AbstractOutcome, abstract_command, AnswersAbstractly}
 
 -- the outcome that some budget gives is the same at every larger budget, and no other budget gives another
@@ -27,22 +25,6 @@ KeepsLists old new (Stopped stop inside) = Unit {0}
 pub record AnswersKeepLists : Type 0 where
   pub kept : (m : ℕ) (k : Limits) (s : Session) (lists : Lists) (form : Object ℕ) (o : AbstractOutcome) → abstract_command m k s lists form ≡ Some o → KeepsLists lists o.lists o.answer
 
--- ---- calls
-
-abbrev pub AnswerWithin : {A : Type 0} → ℕ → Answer A → Type 0
-AnswerWithin limit (Grants a p) = p.calls ≤ limit
-AnswerWithin limit (Refuses r p) = p.calls ≤ limit
-AnswerWithin limit (Halts stop inside p) = p.calls ≤ limit
-
-abbrev pub ExpandedWithin : {A : Type 0} → ℕ → Expanded A → Type 0
-ExpandedWithin limit (Makes a p) = p.calls ≤ limit
-ExpandedWithin limit (Fails fault p) = p.calls ≤ limit
-
--- an event, and the expansion of an expression, count calls within the limit
-pub record CountsWithin (k : Limits) (s : Session) : Type 0 where
-  pub events : (head : ℕ) (d : Object ℕ) → AnswerWithin k.steps (admitted s.standing k head d (at_start s.symbols))
-  pub expressions : (form : Object ℕ) → ExpandedWithin k.steps (expanded (setting s.standing k) form (at_start s.symbols))
-
--- where they do, so does each answer
+-- no answer counts more calls than the limit
 pub record AnswersCountWithin : Type 0 where
-  pub calls : (m : ℕ) (k : Limits) (s : Session) (lists : Lists) (form : Object ℕ) (o : AbstractOutcome) → CountsWithin k s → abstract_command m k s lists form ≡ Some o → o.calls ≤ k.steps
+  pub calls : (m : ℕ) (k : Limits) (s : Session) (lists : Lists) (form : Object ℕ) (o : AbstractOutcome) → abstract_command m k s lists form ≡ Some o → o.calls ≤ k.steps

@@ -29,7 +29,7 @@ pub fn abstract_answers_keep_lists()
     ensures { AnswersKeepLists }
 {}
 
-/// Where events and expansion count calls within the limit, so does each answer.
+/// No answer counts more calls than the limit.
 #[tactic(auto, using(crate::proofs::AnswerLemmas::answers_count_within))]
 pub fn abstract_answers_count_within()
     ensures { AnswersCountWithin }
