@@ -2,3 +2,4 @@ pub mod Computed
 pub mod AnswerLemmas
 pub mod EventLemmas
 pub mod CommandLemmas
+pub mod NestingLemmas

@@ -2,3 +2,4 @@ pub mod WordRows
 pub mod BookRows
 pub mod TypeTests
 pub mod Counting
+pub mod Nesting

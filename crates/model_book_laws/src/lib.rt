@@ -3,6 +3,7 @@
 
 ghost use Rattle.model_book_laws.specs.BookRows.{BooksAreGenerated};
 ghost use Rattle.model_book_laws.specs.Counting.{CommandsCount};
+ghost use Rattle.model_book_laws.specs.Nesting.{NestingIsLimited};
 ghost use Rattle.model_book_laws.specs.TypeTests.{TestsAreRight};
 ghost use Rattle.model_book_laws.specs.WordRows.{WordsAreRight, word_rows};
 ghost use Rattle.model_eval_rows.specs.Types.{type_rows};
@@ -29,4 +30,10 @@ pub fn type_tests()
 #[tactic(auto, using(crate::proofs::CommandLemmas::commands_count))]
 pub fn commands_count_calls()
     ensures { CommandsCount }
+{}
+
+/// Objects nest 64 deep, the outermost counted, and no deeper.
+#[tactic(auto, using(crate::proofs::NestingLemmas::nesting_is_limited))]
+pub fn nesting_is_limited()
+    ensures { NestingIsLimited }
 {}

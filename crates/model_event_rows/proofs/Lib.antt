@@ -20,6 +20,7 @@ pub mod RowListsAtStops
 pub mod RowLogicalMacros
 pub mod RowMacroRefusals
 pub mod RowMacrosStop
+pub mod RowNestedOnceTooDeep
 pub mod RowObjectFunctions
 pub mod RowObjectRefusals
 pub mod RowObjectShapes

@@ -2,7 +2,7 @@
 //! tools/rows.py from the files in rows/.
 #![tactic(auto)]
 
-ghost use Rattle.model_event_rows.specs.Rows.{AbstractOutputs, AbstractRefusals, ArithmeticMacros, BindingForms, ChildrenRules, Congruence, Constants, CoreShapes, CountsAtRefusals, Declarations, DeclaredTypes, Formals, FunctionNames, FunctionShapes, Heads, KeysInOrder, Limits, ListMacros, ListsAtStops, LogicalMacros, MacroRefusals, MacrosStop, ObjectFunctions, ObjectRefusals, ObjectShapes, OptionalFormals, OtherMacros, Packages, RestAndKeys, TheOfTypes, ThreadRules};
+ghost use Rattle.model_event_rows.specs.Rows.{AbstractOutputs, AbstractRefusals, ArithmeticMacros, BindingForms, ChildrenRules, Congruence, Constants, CoreShapes, CountsAtRefusals, Declarations, DeclaredTypes, Formals, FunctionNames, FunctionShapes, Heads, KeysInOrder, Limits, ListMacros, ListsAtStops, LogicalMacros, MacroRefusals, MacrosStop, NestedOnceTooDeep, ObjectFunctions, ObjectRefusals, ObjectShapes, OptionalFormals, OtherMacros, Packages, RestAndKeys, TheOfTypes, ThreadRules};
 
 /// The row `abstract_outputs`.
 #[tactic(auto, using(crate::proofs::RowAbstractOutputs::is_computed))]
@@ -134,6 +134,12 @@ pub fn macro_refusals()
 #[tactic(auto, using(crate::proofs::RowMacrosStop::is_computed))]
 pub fn macros_stop()
     ensures { MacrosStop }
+{}
+
+/// The row `nested_once_too_deep`.
+#[tactic(auto, using(crate::proofs::RowNestedOnceTooDeep::is_computed))]
+pub fn nested_once_too_deep()
+    ensures { NestedOnceTooDeep }
 {}
 
 /// The row `object_functions`.
