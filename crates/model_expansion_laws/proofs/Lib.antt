@@ -1,2 +1,3 @@
 pub mod TestLemmas
 pub mod DepthLemmas
+pub mod WrittenLemmas

@@ -5,7 +5,6 @@ use Rattle.model_objects.specs.Object.{Object, Integer, Symbol, Text, Pair}
 use Rattle.model_symbols.specs.Symbols.{Package}
 use Rattle.model_symbols.specs.Opening.{truth, nil}
 use Rattle.model_prims.specs.Kinds.{by_number, is_nil, is_integer, is_pair, truth_of, same_object}
-use Rattle.model_prims.specs.Numbers.{fix}
 use Rattle.model_prims.specs.Lists.{is_true_list, member, is_member}
 use Rattle.model_prims.specs.Guards.{guard, recognizer_guard, relation_guard, listing_guard}
 use Rattle.model_prims.specs.Values.{wanted, recognized, related, listed}
@@ -17,14 +16,14 @@ use Rattle.model_prims.specs.declared.prim.Recognizer.TheVariants as recognizer
 use Rattle.model_prims.specs.declared.prim.Relation.TheVariants as relation
 use Rattle.model_prims.specs.declared.prim.Listing.TheVariants as listing
 use Rattle.model_lists.specs.Types.{ValueType, Anything, Nothing, Integers, Recognized, OneOf, Either, Both, Other, meets, not_word, is_least, is_greatest}
-use Rattle.model_terms.specs.Cores.{Core, Cores, Var, Const, If, Call, none, more}
+use Rattle.model_terms.specs.Cores.{Core, Const, If}
 use Rattle.model_terms.specs.Worlds.{World}
 use Rattle.model_eval.specs.Outcomes.{Shown, Plain, State, Ended, Gives, Stops, Unknown, Steps, one_more_call, then_with, counting}
 use Rattle.model_eval.specs.Scopes.{Variables, single}
-use Rattle.model_eval.specs.Evaluated.{Evaluator, leaf, is_false, evaluated, called, in_order, by_definition}
-use Rattle.model_eval.specs.Checked.{checked, checked_rules, checked_primitive}
+use Rattle.model_eval.specs.Evaluated.{leaf, is_false, evaluated, called, in_order}
+use Rattle.model_eval.specs.Checked.{checked_rules, checked_primitive}
 use Rattle.model_expansion.specs.Words.{integerp_word, below_word, member_equal_word}
-use Rattle.model_expansion.specs.TypeTerms.{test_of, predicate, range_test, integer_test, low_test, high_test, not_below, not_core, and_core, either_test, both_test, is_nothing, is_anything, true_core, false_core, call_core}
+use Rattle.model_expansion.specs.TypeTerms.{test_of, predicate, range_test, integer_test, low_test, high_test, not_core, and_core, either_test, both_test, is_nothing, is_anything, true_core, false_core, call_core}
 use Rattle.model_expansion_laws.specs.Tests.{Stands, HasTestFunctions, IsPredicate, IsWritten, Says, TestsSay}
 
 -- ---- truth values
