@@ -1,3 +1,5 @@
 pub mod WordRows
 pub mod BookRows
 pub mod TypeTests
+pub mod GuardTests
+pub mod GuardRows

@@ -1,10 +1,9 @@
 -- The test of a type, evaluated, says what the definition of the type says.
-use Rattle.std.specs.Prelude.{◌≡◌, ℕ, List, [], ◌∷◌, map, Bool, true, not, Option, Some, None}
+use Rattle.std.specs.Prelude.{◌≡◌, ℕ, List, [], map, Bool, not, Option, Some, None}
 use Rattle.std.specs.Option.{option_and_then}
-use Rattle.model_symbols.specs.Opening.{opening}
 use Rattle.model_prims.specs.Kinds.{by_number, is_nil}
 use Rattle.model_terms.specs.Cores.{Core, Const}
-use Rattle.model_eval.specs.Outcomes.{Shown, Ended, Gives, Stops, Unknown}
+use Rattle.model_eval.specs.Outcomes.{Ended, Gives, Stops, Unknown}
 use Rattle.model_eval.specs.Scopes.{object_of, single}
 use Rattle.model_eval.specs.Checked.{checked, begun}
 use Rattle.model_eval_rows.specs.Types.{TypeRow}

@@ -1,6 +1,6 @@
 -- The program's words: which are of the grammar, and what they give.
 use Rattle.std.specs.Prelude.{◌≡◌, ℕ, List, [], ◌∷◌, map, Bool, true, false, Option, Some, None, codes}
-use Rattle.model_books.specs.ProgramWords.{Given, nothing_given, given}
+use Rattle.model_books.specs.ProgramWords.{Given, given}
 
 pub record WordRow : Type 0 where
   pub words : List (List ℕ)

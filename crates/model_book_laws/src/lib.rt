@@ -2,6 +2,7 @@
 #![tactic(auto)]
 
 ghost use Rattle.model_book_laws.specs.BookRows.{BooksAreGenerated};
+ghost use Rattle.model_book_laws.specs.GuardRows.{GuardsAgreeWithEffects};
 ghost use Rattle.model_book_laws.specs.TypeTests.{TestsAreRight};
 ghost use Rattle.model_book_laws.specs.WordRows.{WordsAreRight, word_rows};
 ghost use Rattle.model_eval_rows.specs.Types.{type_rows};
@@ -22,4 +23,10 @@ pub fn generated_books()
 #[tactic(auto, using(crate::proofs::Computed::type_tests))]
 pub fn type_tests()
     ensures { TestsAreRight type_rows }
+{}
+
+/// The guard of a function that an object comes with, evaluated, is `NIL` exactly where a call of the function is stopped by it.
+#[tactic(auto, using(crate::proofs::GuardsComputed::guards_agree))]
+pub fn guards_agree_with_effects()
+    ensures { GuardsAgreeWithEffects }
 {}
