@@ -1,2 +1,4 @@
 pub mod Computed
 pub mod GuardsComputed
+pub mod WeightLemmas
+pub mod RoomLemmas

@@ -3,3 +3,4 @@ pub mod BookRows
 pub mod TypeTests
 pub mod GuardTests
 pub mod GuardRows
+pub mod Refusals
