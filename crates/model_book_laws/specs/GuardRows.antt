@@ -19,12 +19,14 @@ minus k = Integer (neg_ℤ (pos k))
 abbrev word : List ℕ → Argument
 word name = Symbol (record { home = acl2; name = name })
 
+-- symbols of a definition
 abbrev a : Argument
 a = word (codes "A")
 
 abbrev b : Argument
 b = word (codes "B")
 
+-- a symbol that every session knows
 abbrev zip : Argument
 zip = word (codes "ZIP")
 
@@ -38,7 +40,7 @@ abbrev text : Argument
 text = Text (codes "A")
 
 abbrev pair : Argument
-pair = Pair a (n 5)
+pair = Pair zip (n 5)
 
 abbrev lets : List ℕ → List Argument → Question
 lets function arguments = record { function = function; arguments = arguments; answer = true }
@@ -84,12 +86,12 @@ word_objects =
 unfoldable pub word_questions : List Question
 word_questions =
     runs (codes "PICK" ∷ codes "ANY" ∷ [])
-    ++ (takes (codes "UPDATE-SYM") (a ∷ no ∷ []) (n 0 ∷ text ∷ pair ∷ [])
-    ++ (takes (codes "UPDATE-STR") (text ∷ []) (a ∷ n 65 ∷ pair ∷ [])
+    ++ (takes (codes "UPDATE-SYM") (zip ∷ no ∷ []) (n 0 ∷ text ∷ pair ∷ [])
+    ++ (takes (codes "UPDATE-STR") (text ∷ []) (zip ∷ n 65 ∷ pair ∷ [])
     ++ (takes (codes "UPDATE-PICK") (a ∷ b ∷ []) (zip ∷ n 0 ∷ pair ∷ [])
-    ++ (takes (codes "UPDATE-EITHER") (n 3 ∷ a ∷ []) (text ∷ pair ∷ [])
-    ++ (takes (codes "UPDATE-OTHER") (a ∷ pair ∷ []) (n 5 ∷ minus 5 ∷ [])
-    ++ takes (codes "UPDATE-ANY") (n 5 ∷ a ∷ text ∷ pair ∷ []) [])))))
+    ++ (takes (codes "UPDATE-EITHER") (n 3 ∷ zip ∷ []) (text ∷ pair ∷ [])
+    ++ (takes (codes "UPDATE-OTHER") (zip ∷ pair ∷ []) (n 5 ∷ minus 5 ∷ [])
+    ++ takes (codes "UPDATE-ANY") (n 5 ∷ zip ∷ text ∷ pair ∷ []) [])))))
 
 -- ---- arrays
 
@@ -102,11 +104,11 @@ unfoldable pub array_questions : List Question
 array_questions =
     runs (codes "ARR-LENGTH" ∷ codes "ANY-LENGTH" ∷ [])
     ++ (takes (codes "ARRP") (text ∷ []) []
-    ++ (takes (codes "ARRI") (n 0 ∷ n 7 ∷ []) (minus 1 ∷ n 8 ∷ a ∷ text ∷ no ∷ [])
-    ++ (takes_two (codes "UPDATE-ARRI") ((n 0, n 9) ∷ (n 7, n 0) ∷ []) ((n 0, n 10) ∷ (n 0, minus 1) ∷ (n 0, a) ∷ (n 8, n 0) ∷ (minus 1, n 0) ∷ (a, n 0) ∷ (n 8, n 10) ∷ [])
+    ++ (takes (codes "ARRI") (n 0 ∷ n 7 ∷ []) (minus 1 ∷ n 8 ∷ zip ∷ text ∷ no ∷ [])
+    ++ (takes_two (codes "UPDATE-ARRI") ((n 0, n 9) ∷ (n 7, n 0) ∷ []) ((n 0, n 10) ∷ (n 0, minus 1) ∷ (n 0, zip) ∷ (n 8, n 0) ∷ (minus 1, n 0) ∷ (zip, n 0) ∷ (n 8, n 10) ∷ [])
     ++ (takes (codes "ANYI") (n 7 ∷ []) (n 8 ∷ minus 1 ∷ [])
     ++ (takes_two (codes "UPDATE-ANYI") ((n 0, pair) ∷ (n 7, text) ∷ []) ((n 8, n 0) ∷ (pair, n 0) ∷ [])
-    ++ (takes (codes "RESIZE-ARR") [] (n 0 ∷ n 8 ∷ a ∷ [])
+    ++ (takes (codes "RESIZE-ARR") [] (n 0 ∷ n 8 ∷ zip ∷ [])
     ++ takes (codes "RESIZE-ANY") [] (n 8 ∷ [])))))))
 
 -- an array that may be resized, of eight elements
@@ -116,7 +118,7 @@ resized_objects =
 
 unfoldable pub resized_questions : List Question
 resized_questions =
-    takes (codes "RESIZE-ARR") (n 0 ∷ n 3 ∷ n 8 ∷ n 12 ∷ n 16777216 ∷ []) (n 16777217 ∷ minus 1 ∷ a ∷ text ∷ pair ∷ [])
+    takes (codes "RESIZE-ARR") (n 0 ∷ n 3 ∷ n 8 ∷ n 12 ∷ n 16777216 ∷ []) (n 16777217 ∷ minus 1 ∷ zip ∷ text ∷ pair ∷ [])
     ++ (takes (codes "ARRI") (n 7 ∷ []) (n 8 ∷ [])
     ++ takes_two (codes "UPDATE-ARRI") ((n 7, n 1) ∷ []) ((n 7, n 2) ∷ []))
 
@@ -153,11 +155,11 @@ symbol_key_objects =
 unfoldable pub symbol_key_questions : List Question
 symbol_key_questions =
     runs (codes "Q-COUNT" ∷ codes "Q-CLEAR" ∷ [])
-    ++ (takes (codes "Q-GET") (a ∷ no ∷ []) (n 5 ∷ text ∷ pair ∷ [])
-    ++ (takes (codes "Q-BOUNDP") (a ∷ no ∷ []) (n 5 ∷ text ∷ pair ∷ [])
-    ++ (takes (codes "Q-GET?") (a ∷ no ∷ []) (n 5 ∷ text ∷ pair ∷ [])
-    ++ (takes (codes "Q-REM") (a ∷ no ∷ []) (n 5 ∷ text ∷ pair ∷ [])
-    ++ (takes_two (codes "Q-PUT") ((a, text) ∷ (no, text) ∷ []) ((n 5, n 5) ∷ (text, n 5) ∷ (pair, n 5) ∷ [])
+    ++ (takes (codes "Q-GET") (zip ∷ no ∷ []) (n 5 ∷ text ∷ pair ∷ [])
+    ++ (takes (codes "Q-BOUNDP") (zip ∷ no ∷ []) (n 5 ∷ text ∷ pair ∷ [])
+    ++ (takes (codes "Q-GET?") (zip ∷ no ∷ []) (n 5 ∷ text ∷ pair ∷ [])
+    ++ (takes (codes "Q-REM") (zip ∷ no ∷ []) (n 5 ∷ text ∷ pair ∷ [])
+    ++ (takes_two (codes "Q-PUT") ((zip, text) ∷ (no, text) ∷ []) ((n 5, n 5) ∷ (text, n 5) ∷ (pair, n 5) ∷ [])
     ++ takes (codes "QP") (text ∷ []) [])))))
 
 -- keys that are symbols or integers
@@ -168,11 +170,11 @@ simple_key_objects =
 unfoldable pub simple_key_questions : List Question
 simple_key_questions =
     runs (codes "L-COUNT" ∷ codes "L-CLEAR" ∷ [])
-    ++ (takes (codes "L-GET") (a ∷ n 5 ∷ minus 5 ∷ []) (text ∷ pair ∷ [])
-    ++ (takes (codes "L-BOUNDP") (a ∷ n 5 ∷ minus 5 ∷ []) (text ∷ pair ∷ [])
-    ++ (takes (codes "L-GET?") (a ∷ n 5 ∷ minus 5 ∷ []) (text ∷ pair ∷ [])
-    ++ (takes (codes "L-REM") (a ∷ n 5 ∷ minus 5 ∷ []) (text ∷ pair ∷ [])
-    ++ takes_two (codes "L-PUT") ((a, text) ∷ (n 5, text) ∷ (minus 5, text) ∷ []) ((text, n 5) ∷ (pair, n 5) ∷ [])))))
+    ++ (takes (codes "L-GET") (zip ∷ n 5 ∷ minus 5 ∷ []) (text ∷ pair ∷ [])
+    ++ (takes (codes "L-BOUNDP") (zip ∷ n 5 ∷ minus 5 ∷ []) (text ∷ pair ∷ [])
+    ++ (takes (codes "L-GET?") (zip ∷ n 5 ∷ minus 5 ∷ []) (text ∷ pair ∷ [])
+    ++ (takes (codes "L-REM") (zip ∷ n 5 ∷ minus 5 ∷ []) (text ∷ pair ∷ [])
+    ++ takes_two (codes "L-PUT") ((zip, text) ∷ (n 5, text) ∷ (minus 5, text) ∷ []) ((text, n 5) ∷ (pair, n 5) ∷ [])))))
 
 -- keys of all kinds
 unfoldable pub any_key_objects : List Bytes
@@ -182,11 +184,11 @@ any_key_objects =
 unfoldable pub any_key_questions : List Question
 any_key_questions =
     runs (codes "E-COUNT" ∷ codes "E-CLEAR" ∷ [])
-    ++ (takes (codes "E-GET") (a ∷ n 5 ∷ text ∷ pair ∷ []) []
-    ++ (takes (codes "E-BOUNDP") (a ∷ n 5 ∷ text ∷ pair ∷ []) []
-    ++ (takes (codes "E-GET?") (a ∷ n 5 ∷ text ∷ pair ∷ []) []
-    ++ (takes (codes "E-REM") (a ∷ n 5 ∷ text ∷ pair ∷ []) []
-    ++ takes_two (codes "E-PUT") ((a, text) ∷ (n 5, text) ∷ (text, text) ∷ (pair, text) ∷ []) []))))
+    ++ (takes (codes "E-GET") (zip ∷ n 5 ∷ text ∷ pair ∷ []) []
+    ++ (takes (codes "E-BOUNDP") (zip ∷ n 5 ∷ text ∷ pair ∷ []) []
+    ++ (takes (codes "E-GET?") (zip ∷ n 5 ∷ text ∷ pair ∷ []) []
+    ++ (takes (codes "E-REM") (zip ∷ n 5 ∷ text ∷ pair ∷ []) []
+    ++ takes_two (codes "E-PUT") ((zip, text) ∷ (n 5, text) ∷ (text, text) ∷ (pair, text) ∷ []) []))))
 
 -- ---- children
 
@@ -200,7 +202,7 @@ unfoldable pub child_questions : List Question
 child_questions =
     runs (codes "ONE" ∷ codes "KIDS-LENGTH" ∷ [])
     ++ (takes (codes "ONEP") (n 5 ∷ []) []
-    ++ (takes (codes "KIDSI") (n 0 ∷ n 7 ∷ []) (minus 1 ∷ n 8 ∷ a ∷ pair ∷ [])
+    ++ (takes (codes "KIDSI") (n 0 ∷ n 7 ∷ []) (minus 1 ∷ n 8 ∷ zip ∷ pair ∷ [])
     ++ takes (codes "RESIZE-KIDS") [] (n 8 ∷ n 0 ∷ [])))
 
 -- where a child is put back, which no call does alone
@@ -212,7 +214,7 @@ put_back_objects =
 unfoldable pub put_back_questions : List Question
 put_back_questions =
     runs (codes "UPDATE-ONE" ∷ [])
-    ++ takes (codes "UPDATE-KIDSI") (n 0 ∷ n 7 ∷ []) (minus 1 ∷ n 8 ∷ a ∷ [])
+    ++ takes (codes "UPDATE-KIDSI") (n 0 ∷ n 7 ∷ []) (minus 1 ∷ n 8 ∷ zip ∷ [])
 
 -- each guard holds exactly where the call is let through
 pub record GuardsAgreeWithEffects : Type 0 where
