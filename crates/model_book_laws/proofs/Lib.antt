@@ -3,3 +3,6 @@ pub mod AnswerLemmas
 pub mod EventLemmas
 pub mod CommandLemmas
 pub mod NestingLemmas
+pub mod GuardsComputed
+pub mod WeightLemmas
+pub mod RoomLemmas

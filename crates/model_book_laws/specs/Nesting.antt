@@ -1,8 +1,8 @@
 -- Objects that nest in each other: 64 are accepted, and no more.
 use Rattle.std.specs.Prelude.{◌≡◌, ℕ, zero, suc, ◌+◌, List, [], ◌∷◌, false, Option, Some, None}
 use Rattle.model_objects.specs.Object.{Symbol}
-use Rattle.model_terms.specs.Worlds.{World, Field, Shape, Child, Concrete}
-use Rattle.model_expansion.specs.Faults.{Refusal, BadType}
+use Rattle.model_terms.specs.Worlds.{World, Field, Child, Concrete}
+use Rattle.model_expansion.specs.Faults.{BadType}
 use Rattle.model_stobjs.specs.Objects.{WrittenField, shape_of, bad_type}
 
 -- a number of a symbol that no type is written with

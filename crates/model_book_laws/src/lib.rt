@@ -4,6 +4,8 @@
 ghost use Rattle.model_book_laws.specs.BookRows.{BooksAreGenerated};
 ghost use Rattle.model_book_laws.specs.Counting.{CommandsCount};
 ghost use Rattle.model_book_laws.specs.Nesting.{NestingIsLimited};
+ghost use Rattle.model_book_laws.specs.GuardRows.{GuardsAgreeWithEffects};
+ghost use Rattle.model_book_laws.specs.Refusals.{SymbolLimitIsExact, TooLargeIsTheFirst};
 ghost use Rattle.model_book_laws.specs.TypeTests.{TestsAreRight};
 ghost use Rattle.model_book_laws.specs.WordRows.{WordsAreRight, word_rows};
 ghost use Rattle.model_eval_rows.specs.Types.{type_rows};
@@ -36,4 +38,22 @@ pub fn commands_count_calls()
 #[tactic(auto, using(crate::proofs::NestingLemmas::nesting_is_limited))]
 pub fn nesting_is_limited()
     ensures { NestingIsLimited }
+{}
+
+/// The guard of a function that an object comes with, evaluated, is `NIL` exactly where a call of the function is stopped by it.
+#[tactic(auto, using(crate::proofs::GuardsComputed::guards_agree))]
+pub fn guards_agree_with_effects()
+    ensures { GuardsAgreeWithEffects }
+{}
+
+/// An abstract object is refused for its first obligation that is too heavy, and for no other.
+#[tactic(auto, using(crate::proofs::WeightLemmas::too_large_is_the_first))]
+pub fn too_large_is_the_first()
+    ensures { TooLargeIsTheFirst }
+{}
+
+/// A definition of an object is refused at the limit of symbols exactly where its names would be too many.
+#[tactic(auto, using(crate::proofs::RoomLemmas::symbol_limit_is_exact))]
+pub fn symbol_limit_is_exact()
+    ensures { SymbolLimitIsExact }
 {}

@@ -3,3 +3,4 @@ pub mod DepthLemmas
 pub mod CountLemmas
 pub mod LayerLemmas
 pub mod NestingLemmas
+pub mod WrittenLemmas

@@ -11,7 +11,7 @@ use Rattle.model_prims.specs.declared.prim.Recognizer.{Recognizer as OneRecogniz
 use Rattle.model_prims.specs.declared.prim.Recognizer.TheVariants as recognizer
 use Rattle.model_prims.specs.declared.prim.Relation.TheVariants as relation
 use Rattle.model_prims.specs.declared.prim.Listing.TheVariants as listing
-use Rattle.model_lists.specs.Types.{ValueType, Anything, Nothing, Integers, Recognized, OneOf, Either, Both, Other, meets, not_word, atom_word, null_word}
+use Rattle.model_lists.specs.Types.{ValueType, Anything, Nothing, Integers, Recognized, OneOf, Either, Both, Other, meets, type_of, not_word, atom_word, null_word}
 use Rattle.model_terms.specs.Cores.{Core}
 use Rattle.model_terms.specs.Worlds.{World, Primitive, definition}
 use Rattle.model_eval.specs.Outcomes.{Plain, Stop, Guard, Steps, Depth, Range, Large, Symbols, State, Ended, Gives, Stops, Unknown}
@@ -19,7 +19,7 @@ use Rattle.model_eval.specs.Scopes.{Variables}
 use Rattle.model_eval.specs.Evaluated.{leaf}
 use Rattle.model_eval.specs.Checked.{checked, checked_rules}
 use Rattle.model_expansion.specs.Words.{symbolp_word, stringp_word, integerp_word, booleanp_word, below_word, member_equal_word}
-use Rattle.model_expansion.specs.TypeTerms.{test_of}
+use Rattle.model_expansion.specs.TypeTerms.{test_of, accepted_type, type_term}
 
 -- a primitive stands in the world under this name
 pub record Stands (w : World) (f : ℕ) (p : Prim) : Type 0 where
@@ -79,3 +79,14 @@ pub record TestsSay : Type 0 where
   pub says : (w : World) (packages : List Package) (limit depth : ℕ) (t : ValueType ℕ) (x : Core) (o : Object ℕ) (variables : Variables ℕ) (state : State ℕ)
       → HasTestFunctions w → IsWritten t → leaf (checked_rules w packages limit) x variables ≡ Some (Plain o)
       → Says (meets by_number t o) (checked w packages limit depth (test_of x t) variables state)
+
+-- each type that is written is of this kind
+pub record TypesAreWritten : Type 0 where
+  pub written : (o : Object ℕ) (t : ValueType ℕ) → type_of (λ (o : Object ℕ). o) o ≡ Some t → IsWritten t
+
+-- the test of a written type, evaluated where an object stands, is `NIL` exactly where the object does not meet the type
+pub record TermsSay : Type 0 where
+  pub says : (w : World) (packages : List Package) (limit depth : ℕ) (written : Object ℕ) (t : ValueType ℕ) (x f : Core) (o : Object ℕ) (variables : Variables ℕ) (state : State ℕ)
+      → HasTestFunctions w → leaf (checked_rules w packages limit) x variables ≡ Some (Plain o)
+      → accepted_type written ≡ Some t → type_term written x ≡ Some f
+      → Says (meets by_number t o) (checked w packages limit depth f variables state)

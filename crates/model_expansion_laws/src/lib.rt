@@ -3,7 +3,7 @@
 
 ghost use Rattle.model_expansion_laws.specs.Counting.{CoresAreNotTooDeep, ExpansionCounts};
 ghost use Rattle.model_expansion_laws.specs.Depth.{DepthComesFirst};
-ghost use Rattle.model_expansion_laws.specs.Tests.{TestsSay};
+ghost use Rattle.model_expansion_laws.specs.Tests.{TermsSay, TestsSay, TypesAreWritten};
 
 /// The test of a type gives a value other than `NIL` exactly where the object meets the type, and stops at a limit alone.
 #[tactic(auto, using(crate::proofs::TestLemmas::tests_say))]
@@ -27,4 +27,16 @@ pub fn expansion_counts_calls()
 #[tactic(auto, using(crate::proofs::NestingLemmas::cores_are_not_too_deep))]
 pub fn cores_are_not_too_deep()
     ensures { CoresAreNotTooDeep }
+{}
+
+/// Each type that is read is one whose test can be written.
+#[tactic(auto, using(crate::proofs::WrittenLemmas::types_are_written))]
+pub fn read_types_can_be_tested()
+    ensures { TypesAreWritten }
+{}
+
+/// The test of a type as it is written gives a value other than `NIL` exactly where the object meets the type, and stops at a limit alone.
+#[tactic(auto, using(crate::proofs::WrittenLemmas::terms_say))]
+pub fn terms_of_types_say_what_types_mean()
+    ensures { TermsSay }
 {}
