@@ -1,5 +1,6 @@
 pub mod Answers
 pub mod Commands
+pub mod Holding
 pub mod Books
 pub mod Rows
 pub mod Laws
