@@ -71,15 +71,25 @@ pub record ListsAreReadAlike : Type 0 where
   pub hash_cleared : (f : ℕ) (l m : ObjectList QualifiedName) → AreAlike name_cmp l m
       → AlikeEffects name_cmp (hash_cleared by_name f l) (hash_cleared by_name f m)
 
--- what is written has the fields of the layout; clearing asks for no key, so the field has to be a hash field
+-- what is written has the fields of the layout, and reading writes nothing; clearing asks for no key, so the field has to be a hash field
 pub record WritesKeepFields : Type 0 where
+  pub accessed : (layout : Layout QualifiedName) (f : ℕ) (args : List (Object QualifiedName)) (whole : Layout QualifiedName) (l : ObjectList QualifiedName)
+      → KeepsFields whole (accessed by_name layout f args l)
   pub changed : (layout : Layout QualifiedName) (f : ℕ) (args : List (Object QualifiedName)) (whole : Layout QualifiedName) (l : ObjectList QualifiedName)
       → field_layout f whole ≡ layout → HasFields whole l → KeepsFields whole (changed by_name layout f args l)
+  pub measured : (f : ℕ) (whole : Layout QualifiedName) (l : ObjectList QualifiedName) → KeepsFields whole (measured by_name f l)
   pub lengthened : (layout : Layout QualifiedName) (f : ℕ) (args : List (Object QualifiedName)) (whole : Layout QualifiedName) (l : ObjectList QualifiedName)
       → field_layout f whole ≡ layout → HasFields whole l → KeepsFields whole (lengthened by_name layout f args l)
+  pub hash_read : (layout : Layout QualifiedName) (f : ℕ) (args : List (Object QualifiedName)) (whole : Layout QualifiedName) (l : ObjectList QualifiedName)
+      → KeepsFields whole (hash_read by_name layout f args l)
+  pub hash_bound : (layout : Layout QualifiedName) (f : ℕ) (args : List (Object QualifiedName)) (whole : Layout QualifiedName) (l : ObjectList QualifiedName)
+      → KeepsFields whole (hash_bound by_name layout f args l)
+  pub hash_looked_up : (layout : Layout QualifiedName) (f : ℕ) (args : List (Object QualifiedName)) (whole : Layout QualifiedName) (l : ObjectList QualifiedName)
+      → KeepsFields whole (hash_looked_up by_name layout f args l)
   pub hash_put : (layout : Layout QualifiedName) (f : ℕ) (args : List (Object QualifiedName)) (whole : Layout QualifiedName) (l : ObjectList QualifiedName)
       → field_layout f whole ≡ layout → HasFields whole l → KeepsFields whole (hash_put by_name layout f args l)
   pub hash_removed : (layout : Layout QualifiedName) (f : ℕ) (args : List (Object QualifiedName)) (whole : Layout QualifiedName) (l : ObjectList QualifiedName)
       → field_layout f whole ≡ layout → HasFields whole l → KeepsFields whole (hash_removed by_name layout f args l)
+  pub hash_counted : (f : ℕ) (whole : Layout QualifiedName) (l : ObjectList QualifiedName) → KeepsFields whole (hash_counted by_name f l)
   pub hash_cleared : (layout : Layout QualifiedName) (f : ℕ) (whole : Layout QualifiedName) (l : ObjectList QualifiedName)
       → field_layout f whole ≡ layout → IsHashField layout → HasFields whole l → KeepsFields whole (hash_cleared by_name f l)
