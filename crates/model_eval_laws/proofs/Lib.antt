@@ -13,3 +13,4 @@ pub mod OpeningLemmas
 pub mod Cut
 pub mod CutLemmas
 pub mod WordLemmas
+pub mod StandingLemmas

@@ -6,3 +6,4 @@ pub mod Budgets
 pub mod Opening
 pub mod Cutting
 pub mod Words
+pub mod Standing

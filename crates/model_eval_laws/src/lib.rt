@@ -7,6 +7,7 @@ ghost use Rattle.model_eval_laws.specs.Budgets.{IsSameAtLargerBudgets, AbstractB
 ghost use Rattle.model_eval_laws.specs.Cutting.{IsCut};
 ghost use Rattle.model_eval_laws.specs.Opening.{OpensForms};
 ghost use Rattle.model_eval_laws.specs.Scope.{LeavesOthers};
+ghost use Rattle.model_eval_laws.specs.Standing.{FunctionsAreAlike};
 ghost use Rattle.model_eval_laws.specs.Words.{IsStobjLetWord};
 
 /// A larger limit of calls or of open forms changes nothing, unless the smaller one was met.
@@ -68,4 +69,10 @@ pub fn cut_evaluations_come_before()
 #[tactic(auto, using(crate::proofs::WordLemmas::is_stobj_let_word))]
 pub fn stobj_let_is_named()
     ensures { IsStobjLetWord }
+{}
+
+/// No function of an object tells lists apart that stand for one object, and what it writes has the fields of the layout.
+#[tactic(auto, using(crate::proofs::StandingLemmas::functions_are_alike))]
+pub fn functions_are_alike_on_alike_lists()
+    ensures { FunctionsAreAlike }
 {}

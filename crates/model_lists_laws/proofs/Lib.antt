@@ -1,2 +1,6 @@
 pub mod LogicalLemmas
 pub mod NormalLemmas
+pub mod PairLemmas
+pub mod StandingLemmas
+pub mod AlikeLemmas
+pub mod KeptFields

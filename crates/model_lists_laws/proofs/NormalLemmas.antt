@@ -65,7 +65,7 @@ names_trans x y z h g = elim (then_less (bytes_cmp x.home y.home) (bytes_cmp x.n
   ]
 ]
 
-names_total : IsTotalOrder name_cmp
+pub names_total : IsTotalOrder name_cmp
 names_total = record { antisymm = names_antisymm; trans = names_trans; congr = names_congr }
 
 numbers_total : (symbols : List QualifiedName) → IsTotalOrder (number_cmp symbols)
@@ -78,17 +78,17 @@ numbers_total symbols = record {
 -- ---- pairs in order
 
 module _ {S : Type 0} (names : S → S → Ordering) (total : IsTotalOrder names) where
-  abbrev Pairing : Type 0
+  abbrev pub Pairing : Type 0
   Pairing = Object S × Object S
 
-  abbrev cmp : Pairing → Pairing → Ordering
+  abbrev pub cmp : Pairing → Pairing → Ordering
   cmp p q = object_cmp names p.0 q.0
 
-  abbrev IsBefore : Pairing → List Pairing → Type 0
+  abbrev pub IsBefore : Pairing → List Pairing → Type 0
   IsBefore p [] = Unit {0}
   IsBefore p (q ∷ qs) = cmp p q ≡ Less
 
-  abbrev InOrder : List Pairing → Type 0
+  abbrev pub InOrder : List Pairing → Type 0
   InOrder [] = Unit {0}
   InOrder (p ∷ ps) = IsBefore p ps × InOrder ps
 
@@ -118,11 +118,11 @@ module _ {S : Type 0} (names : S → S → Ordering) (total : IsTotalOrder names
       go Equal e i = (equal_before p q qs e h.0, h.1)
       go Greater e i = (before_put q p qs (after p q e) h.0, i)
 
-  normal_in_order : (ps : List Pairing) → InOrder (normal_pairs names ps)
+  pub normal_in_order : (ps : List Pairing) → InOrder (normal_pairs names ps)
   normal_in_order [] = tt
   normal_in_order (p ∷ ps) = put_keeps p (normal_pairs names ps) (normal_in_order ps)
 
-  put_first : (p : Pairing) (ps : List Pairing) → IsBefore p ps → put_in_order names p ps ≡ p ∷ ps
+  pub put_first : (p : Pairing) (ps : List Pairing) → IsBefore p ps → put_in_order names p ps ≡ p ∷ ps
   put_first p [] b = refl
   put_first p (q ∷ qs) b = rw b refl
 
@@ -139,7 +139,7 @@ module _ {S : Type 0} (names : S → S → Ordering) (total : IsTotalOrder names
 -- ---- the value of a key
 
 module _ {S : Type 0} (k : SymbolKind S) (decides : (a b : S) → Decides (k.same a b) (a ≡ b)) where
-  same_itself : (x : Object S) → same_object k x x ≡ true
+  pub same_itself : (x : Object S) → same_object k x x ≡ true
   same_itself (Integer n) = (Decides-int_eq n n).1 refl
   same_itself (Symbol s) = (decides s s).1 refl
   same_itself (Text bytes) = (bytes_eq-Decides bytes bytes).1 refl
@@ -149,7 +149,7 @@ module _ {S : Type 0} (k : SymbolKind S) (decides : (a b : S) → Decides (k.sam
   both true b e = (refl, e)
   both false b e = cc
 
-  same_tells : (x y : Object S) → same_object k x y ≡ true → x ≡ y
+  pub same_tells : (x y : Object S) → same_object k x y ≡ true → x ≡ y
   same_tells (Integer m) (Integer n) e = ap Integer ((Decides-int_eq m n).0 e)
   same_tells (Integer m) (Symbol t) e = cc
   same_tells (Integer m) (Text b) e = cc
@@ -170,7 +170,7 @@ module _ {S : Type 0} (k : SymbolKind S) (decides : (a b : S) → Decides (k.sam
       rw (same_tells a b parts.0, same_tells d f parts.1) refl
 
   module _ (names : S → S → Ordering) (total : IsTotalOrder names) (exact : CmpEqualImpliesEq names) where
-    not_itself : (x : Object S) → object_cmp names x x ≡ Greater → ⊥
+    pub not_itself : (x : Object S) → object_cmp names x x ≡ Greater → ⊥
     not_itself x e = cc_less (ap ordering_reverse e) (sym ((object_total names total).antisymm x x) ∙ e)
       where
         cc_less : ordering_reverse (object_cmp names x x) ≡ Less → ordering_reverse (object_cmp names x x) ≡ Greater → ⊥
@@ -202,11 +202,11 @@ module _ {S : Type 0} (k : SymbolKind S) (decides : (a b : S) → Decides (k.sam
         go Equal e h = equal (object_exact names exact p.0 q.0 e)
         go Greater e h = rw h (greater e)
 
-    value_normal : (key : Object S) (ps : List (Object S × Object S)) → value_at k key (normal_pairs names ps) ≡ value_at k key ps
+    pub value_normal : (key : Object S) (ps : List (Object S × Object S)) → value_at k key (normal_pairs names ps) ≡ value_at k key ps
     value_normal key [] = refl
     value_normal key (p ∷ ps) = value_put key p (normal_pairs names ps) ∙ ap (λ (o : Option (Object S)). if same_object k key p.0 then Some p.1 else o) (value_normal key ps)
 
-names_exact : CmpEqualImpliesEq name_cmp
+pub names_exact : CmpEqualImpliesEq name_cmp
 names_exact x y e =
     let p = then_equal (bytes_cmp x.home y.home) (bytes_cmp x.name y.name) e in
     same_parts x y (exact_bytes x.home y.home p.0) (exact_bytes x.name y.name p.1)

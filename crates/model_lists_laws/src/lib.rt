@@ -2,6 +2,9 @@
 #![tactic(auto)]
 
 ghost use Rattle.model_lists_laws.specs.Laws.{IsLogical, IsNormal, IsRecognized, AreTypeWords};
+ghost use Rattle.std.specs.Prelude.{ℕ};
+ghost use Rattle.model_lists_laws.specs.Standing.{NewObjectsStand, ListsAreReadAlike, WritesKeepFields};
+ghost use Rattle.model_symbols.specs.Symbols.{QualifiedName};
 ghost use Rattle.model_prims.specs.Kinds.{by_name, by_number};
 
 /// What is done to a list is done to the ordinary object that it is in the logic.
@@ -27,4 +30,23 @@ pub fn type_words_are_named()
 #[tactic(auto, using(crate::proofs::NormalLemmas::is_normal))]
 pub fn normal_lists_are_normal()
     ensures { IsNormal }
+{}
+
+/// A new object has the fields of its layout, and stands for its own list.
+#[tactic(auto, using(crate::proofs::StandingLemmas::new_objects_stand))]
+pub fn new_objects_stand_for_their_lists()
+    ensures numbered { NewObjectsStand ℕ }
+    ensures named { NewObjectsStand QualifiedName }
+{}
+
+/// What reading and writing give depends only on what the list stands for.
+#[tactic(auto, using(crate::proofs::AlikeLemmas::lists_are_read_alike))]
+pub fn alike_lists_are_read_alike()
+    ensures { ListsAreReadAlike }
+{}
+
+/// What is written has the fields of the layout.
+#[tactic(auto, using(crate::proofs::KeptFields::writes_keep_fields))]
+pub fn writes_keep_the_fields()
+    ensures { WritesKeepFields }
 {}
