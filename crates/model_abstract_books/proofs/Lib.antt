@@ -3,3 +3,4 @@ pub mod RowStopping
 pub mod BudgetLemmas
 pub mod WayLemmas
 pub mod AnswerLemmas
+pub mod RowHolding
