@@ -4,3 +4,9 @@ pub mod BudgetLemmas
 pub mod WayLemmas
 pub mod AnswerLemmas
 pub mod RowHolding
+pub mod IdentitySession
+pub mod IdentityForms
+pub mod IdentityValues
+pub mod IdentityLemmas
+pub mod AbstractLemmas
+pub mod RowIdentity

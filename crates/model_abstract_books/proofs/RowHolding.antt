@@ -1,24 +1,23 @@
 -- Obligations that say nothing, and false ones.
-use Rattle.std.proofs.Common.{refl, ◌≡◌, ℕ, List, [], ◌∷◌, Bool, true, false, Some, sym, ap, ◌∙◌, subst}
+use Rattle.std.proofs.Common.{refl, ◌≡◌, ℕ, [], ◌∷◌, Bool, true, false, Some, sym, ◌∙◌, subst}
 use Rattle.std.specs.Prelude.{pos, codes}
 use Rattle.model_symbols.proofs.NameLemmas.{same_name-Decides}
-use Rattle.model_symbols.specs.Opening.{common_lisp_text, acl2_text, common_lisp_symbols, acl2_symbols, acl2_package, opening, truth_name}
-use Rattle.model_objects.specs.Object.{Object, Integer, Symbol}
-use Rattle.model_prims.specs.Kinds.{by_name, is_nil, nil_of, truth_of, same_object}
+use Rattle.model_symbols.specs.Opening.{common_lisp_text, acl2_text, common_lisp_symbols, acl2_symbols, acl2_package, opening}
+use Rattle.model_objects.specs.Object.{Object, Integer}
+use Rattle.model_prims.specs.Kinds.{by_name, truth_of, same_object}
 use Rattle.model_prims.specs.Rows.{table}
 use Rattle.model_prims.specs.Values.{recognized, related, wanted}
 use Rattle.model_lists_laws.proofs.NormalLemmas.{same_itself}
 use Rattle.model_terms.specs.Cores.{Core, Call, Const, Var, more, none}
-use Rattle.model_eval.specs.Logic.{Thing, Values, EndsWith, value_in, found, logic, form_value, form_values, call_within}
+use Rattle.model_eval.specs.Logic.{Thing, Values, EndsWith, value_in, form_value, form_values, call_within}
 use Rattle.model_eval_laws.proofs.BudgetLemmas.{is_same_at_larger_budgets}
 use Rattle.model_expansion.specs.Words.{equal_word, integerp_word, hidden_variable_word}
 use Rattle.model_expansion.specs.Expansion.{macro_values, look_at, settled, grown_all, grown}
 use Rattle.model_expansion.specs.Layers.{made_of}
 use Rattle.model_stobjs.specs.Obligations.{call}
-use Rattle.model_events.specs.Events.{Standing}
 use Rattle.model_books.specs.Opening.{opening_world, opening_session}
 use Rattle.model_abstract_books.specs.Commands.{book_of}
-use Rattle.model_abstract_books.specs.Holding.{Holds, core_of, IsMet}
+use Rattle.model_abstract_books.specs.Holding.{core_of, IsMet}
 use Rattle.model_abstract_books.specs.HoldingRows.{HoldingRows, HoldsAtFirst, variable, constant, equal}
 
 abbrev at_first : Core → Values → Thing → Type 0

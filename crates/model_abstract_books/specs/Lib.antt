@@ -4,4 +4,5 @@ pub mod Holding
 pub mod HoldingRows
 pub mod Books
 pub mod Rows
+pub mod Identity
 pub mod Laws
