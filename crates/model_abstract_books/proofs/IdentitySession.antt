@@ -68,7 +68,8 @@ new_symbols =
 unfoldable pub known_symbols : List QualifiedName
 known_symbols = opening.symbols ++ new_symbols
 
--- ---- definitions
+-- ---- definitions; the new symbols have the numbers from 196 on: 196 is `ST$C`, 204 is `ST$AP`, 205 is `X`, 207 is `VAL$A`, 209 is
+-- `UPDATE-VAL$A`, 210 is `V`, 211 is `ST$CORR`, 212 is `ST`; 141 is `TRUE-LISTP`, 143 is `LEN`, 145 is `UPDATE-NTH`
 
 abbrev variables : List ℕ → Cores
 variables xs = cores (map Var xs)
