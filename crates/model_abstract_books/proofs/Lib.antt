@@ -3,3 +3,10 @@ pub mod RowStopping
 pub mod BudgetLemmas
 pub mod WayLemmas
 pub mod AnswerLemmas
+pub mod RowHolding
+pub mod IdentitySession
+pub mod IdentityForms
+pub mod IdentityValues
+pub mod IdentityLemmas
+pub mod AbstractLemmas
+pub mod RowIdentity

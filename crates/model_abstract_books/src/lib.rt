@@ -2,6 +2,8 @@
 #![tactic(auto)]
 
 ghost use Rattle.model_abstract_books.specs.Rows.{Doubled, Stopping};
+ghost use Rattle.model_abstract_books.specs.HoldingRows.{HoldingRows};
+ghost use Rattle.model_abstract_books.specs.Identity.{IdentityHolds};
 ghost use Rattle.model_abstract_books.specs.Laws.{AnswersAreDetermined, AnswersKeepLists, AnswersCountWithin};
 
 /// A book whose abstract object holds a number and whose foundation holds its double: what is written, and that every answer
@@ -33,4 +35,16 @@ pub fn abstract_answers_keep_lists()
 #[tactic(auto, using(crate::proofs::AnswerLemmas::answers_count_within))]
 pub fn abstract_answers_count_within()
     ensures { AnswersCountWithin }
+{}
+
+/// An obligation that says nothing holds, and one that is false does not.
+#[tactic(auto, using(crate::proofs::RowHolding::obligations_hold_or_not))]
+pub fn obligations_hold_or_not()
+    ensures { HoldingRows }
+{}
+
+/// A book whose abstract object is its foundation as a list of the logic: its six obligations hold.
+#[tactic(auto, using(crate::proofs::RowIdentity::identity_holds))]
+pub fn identity_obligations_hold()
+    ensures { IdentityHolds }
 {}
