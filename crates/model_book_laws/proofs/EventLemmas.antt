@@ -98,7 +98,7 @@ module _ (limit : ℕ) where
 
   answers_written_abstract : (w : World) (packages : List Package) (a : WrittenAbstract) (p : Progress) → Answers limit p (abstract_then w packages a p)
   answers_written_abstract w packages a p =
-      answers_unless limit (bad_name p.symbols (abstracts.names_tested a))
+      answers_unless limit (bad_name p.symbols (abstracts.names_tested packages p.symbols a))
       (λ after. made_then w a (names_made packages [] (makings (slots after.symbols a)) after.symbols) after) p
       (answers_made_abstract w a (names_made packages [] (makings (slots p.symbols a)) p.symbols) p (adds_names packages [] (makings (slots p.symbols a)) p.symbols))
 

@@ -1,6 +1,7 @@
 pub mod RowAbstractOutputs
 pub mod RowAbstractRefusals
 pub mod RowArithmeticMacros
+pub mod RowBarePackage
 pub mod RowBindingForms
 pub mod RowChildrenRules
 pub mod RowCongruence
@@ -9,15 +10,20 @@ pub mod RowCoreShapes
 pub mod RowCountsAtRefusals
 pub mod RowDeclarations
 pub mod RowDeclaredTypes
+pub mod RowDeepRefused
+pub mod RowDeepTaken
+pub mod RowDefaultNames
 pub mod RowFormals
 pub mod RowFunctionNames
 pub mod RowFunctionShapes
 pub mod RowHeads
+pub mod RowImproperEvents
 pub mod RowKeysInOrder
 pub mod RowLimits
 pub mod RowListMacros
 pub mod RowListsAtStops
 pub mod RowLogicalMacros
+pub mod RowLowerCase
 pub mod RowMacroRefusals
 pub mod RowMacrosStop
 pub mod RowNestedOnceTooDeep
@@ -28,5 +34,6 @@ pub mod RowOptionalFormals
 pub mod RowOtherMacros
 pub mod RowPackages
 pub mod RowRestAndKeys
+pub mod RowStepsInEvents
 pub mod RowTheOfTypes
 pub mod RowThreadRules

@@ -33,6 +33,16 @@ arithmetic_macros_written = lines (codes "0" ∷ codes "5" ∷ codes "6" ∷ cod
 pub record ArithmeticMacros : Type 0 where
   pub is_written : output ([]) arithmetic_macros_input ≡ record { bytes = arithmetic_macros_written; status = Errors }
 
+-- bare package
+abbrev pub bare_package_input : List ℕ
+bare_package_input = lines (codes "(defpkg \"B\" nil)" ∷ codes "(in-package \"B\")" ∷ codes "(acl2::defstobj c (v :type acl2::integer :initially 0))" ∷ codes "(acl2::defun lap (x) (acl2::equal x x))" ∷ codes "(acl2::defun mk () 'nil)" ∷ codes "(acl2::defun l2 (n x) (acl2::declare (acl2::xargs :guard (acl2::and (acl2::integerp n) (lap x)))) (acl2::cons n x))" ∷ codes "(acl2::defabsstobj s :foundation c :recognizer (sp :logic lap) :creator (create-s :logic mk) :corr-fn acl2::equal :exports ((up :logic l2 :exec update-v)))" ∷ codes "(up 'a s)" ∷ codes "(sp s)" ∷ codes "(:show s)" ∷ codes "(acl2::defthm . 5)" ∷ codes "(acl2::progn)" ∷ codes "(acl2::defun f (x) (foo))" ∷ codes "(acl2::mutual-recursion)" ∷ [])
+
+abbrev pub bare_package_written : List ℕ
+bare_package_written = lines (codes "\"B\"" ∷ codes "\"B\"" ∷ codes "C" ∷ codes "LAP" ∷ codes "MK" ∷ codes "L2" ∷ codes "S" ∷ codes "CREATE-S{CORRESPONDENCE}: (COMMON-LISP::EQUAL (CREATE-C) (MK))" ∷ codes "CREATE-S{PRESERVED}: (LAP (MK))" ∷ codes "UP{CORRESPONDENCE}: (ACL2::IMPLIES (COMMON-LISP::AND (COMMON-LISP::EQUAL C S) (COMMON-LISP::IF (COMMON-LISP::INTEGERP N) (LAP S) (COMMON-LISP::QUOTE COMMON-LISP::NIL))) (COMMON-LISP::EQUAL (UPDATE-V N C) (L2 N S)))" ∷ codes "UP{GUARD-THM}: (ACL2::IMPLIES (COMMON-LISP::AND (COMMON-LISP::EQUAL C S) (COMMON-LISP::IF (COMMON-LISP::INTEGERP N) (LAP S) (COMMON-LISP::QUOTE COMMON-LISP::NIL))) (COMMON-LISP::INTEGERP N))" ∷ codes "UP{PRESERVED}: (ACL2::IMPLIES (COMMON-LISP::AND (LAP S) (COMMON-LISP::IF (COMMON-LISP::INTEGERP N) (LAP S) (COMMON-LISP::QUOTE COMMON-LISP::NIL))) (LAP (L2 N S)))" ∷ codes "Guard violation: (UP A <s>)" ∷ codes "COMMON-LISP::T" ∷ codes "(0)" ∷ codes "Skipped" ∷ codes "Refused: NotSupported COMMON-LISP::PROGN" ∷ codes "Refused: UnknownFunction FOO" ∷ codes "Refused: BadShape ACL2::MUTUAL-RECURSION" ∷ codes "; 14 commands, 4 calls, 4 errors" ∷ [])
+
+pub record BarePackage : Type 0 where
+  pub is_written : output ([]) bare_package_input ≡ record { bytes = bare_package_written; status = Errors }
+
 -- binding forms
 abbrev pub binding_forms_input : List ℕ
 binding_forms_input = lines (codes "(let ((x 1) (y 2)) (cons y x))" ∷ codes "(let () 5)" ∷ codes "(let ((x 1)) (declare (ignore x)) (declare . 5) 7)" ∷ codes "(let ((x 1)) (declare))" ∷ codes "(let ((x 1) (x 2)) x)" ∷ codes "(let ((5 1)) 1)" ∷ codes "(let ((x)) 1)" ∷ codes "(let ((nil 1)) 1)" ∷ codes "(let ((:k 1)) 1)" ∷ codes "(let ((*x* 1)) 1)" ∷ codes "(let ((&x 1)) 1)" ∷ codes "(let x 1)" ∷ codes "(let ((x 1)))" ∷ codes "(let ((x 1)) 2 3)" ∷ codes "(let* ((x 1) (x (cons x x))) x)" ∷ codes "(let* () 5)" ∷ codes "(let* ((x 1)) 2 3)" ∷ codes "(let* ((x 1) . 5) 2)" ∷ codes "(mv-let (a b) (mv 1 2) (cons a b))" ∷ codes "(mv 1 2)" ∷ codes "(mv 1)" ∷ codes "(mv-let (a) (mv 1 2) a)" ∷ codes "(mv-let (a a) (mv 1 2) a)" ∷ codes "(mv-let (a b) 5 a)" ∷ codes "(let ((x 1)) (let ((y x) (x 2)) (cons x y)))" ∷ [])
@@ -113,6 +123,36 @@ declared_types_written = lines (codes "H" ∷ codes "1" ∷ codes "Guard violati
 pub record DeclaredTypes : Type 0 where
   pub is_written : output ([]) declared_types_input ≡ record { bytes = declared_types_written; status = Errors }
 
+-- deep refused
+abbrev pub deep_refused_input : List ℕ
+deep_refused_input = lines (codes "(the (or null null null null null null null null null null null null null null null null null null null null null null null null null null null null null null null null null null null null null null null null null null null null null null null null null null null null null null null null null null null null null null null null null null null null null null null null null null null null null null null null null null null null null null null null null null null null null null null null null null null null null null null null null null null null null null null null null null null null null null null null null null null null null null null null null null null null null null null null null null null null null null null null null null null null null null null null null null null null null null null null null null null null null null null null null null null null null null null null null null null null null null null null null null null null null null null null null null null null null null null null) nil)" ∷ [])
+
+abbrev pub deep_refused_written : List ℕ
+deep_refused_written = lines (codes "Refused: BadShape THE" ∷ codes "; 1 commands, 1 calls, 1 errors" ∷ [])
+
+pub record DeepRefused : Type 0 where
+  pub is_written : output ([]) deep_refused_input ≡ record { bytes = deep_refused_written; status = Errors }
+
+-- deep taken
+abbrev pub deep_taken_input : List ℕ
+deep_taken_input = lines (codes "(the (or null null null null null null null null null null null null null null null null null null null null null null null null null null null null null null null null null null null null null null null null null null null null null null null null null null null null null null null null null null null null null null null null null null null null null null null null null null null null null null null null null null null null null null null null null null null null null null null null null null null null null null null null null null null null null null null null null null null null null null null null null null null null null null null null null null null null null null null null null null null null null null null null null null null null null null null null null null null null null null null null null null null null null null null null null null null null null null null null null null null null null null null null null null null null null null null null null null null null null null null) nil)" ∷ [])
+
+abbrev pub deep_taken_written : List ℕ
+deep_taken_written = lines (codes "NIL" ∷ codes "; 1 commands, 3 calls, 0 errors" ∷ [])
+
+pub record DeepTaken : Type 0 where
+  pub is_written : output ([]) deep_taken_input ≡ record { bytes = deep_taken_written; status = Done }
+
+-- default names
+abbrev pub default_names_input : List ℕ
+default_names_input = lines (codes "(defstobj zero$c (zv))" ∷ codes "(defabsstobj zero)" ∷ codes "(defpkg \"P\" '(:stp nil quote))" ∷ codes "(in-package \"P\")" ∷ codes "(acl2::defstobj st$c (v))" ∷ codes "(acl2::defun st$ap (x) x)" ∷ codes "(acl2::defun create-st$a () 'a)" ∷ codes "(acl2::defun st$corr (a b) a)" ∷ codes "(acl2::defabsstobj st)" ∷ codes "(:stp st)" ∷ [])
+
+abbrev pub default_names_written : List ℕ
+default_names_written = lines (codes "ZERO$C" ∷ codes "Refused: BadName ZEROP" ∷ codes "\"P\"" ∷ codes "\"P\"" ∷ codes "ST$C" ∷ codes "ST$AP" ∷ codes "CREATE-ST$A" ∷ codes "ST$CORR" ∷ codes "Refused: BadName :STP" ∷ codes "Refused: NotSupported :STP" ∷ codes "; 10 commands, 0 calls, 3 errors" ∷ [])
+
+pub record DefaultNames : Type 0 where
+  pub is_written : output ([]) default_names_input ≡ record { bytes = default_names_written; status = Errors }
+
 -- formals
 abbrev pub formals_input : List ℕ
 formals_input = lines (codes "(defun f (x 5) x)" ∷ codes "(defun f (nil) 1)" ∷ codes "(defun f (t) 1)" ∷ codes "(defun f (:x) 1)" ∷ codes "(defun f (&rest) 1)" ∷ codes "(defun f (*x*) 1)" ∷ codes "(defun f (**) 1)" ∷ codes "(f 2)" ∷ codes "(defun g (x y x) 1)" ∷ codes "(defun g (x y y x) 1)" ∷ codes "(defun g (x x 5) 1)" ∷ codes "(mutual-recursion (defun g (x x) 1) (defun h (5) 1))" ∷ codes "(defun g (x x) (declare 5) 1)" ∷ [])
@@ -152,6 +192,16 @@ heads_written = lines (codes "Refused: BadShape :SHOW" ∷ codes "Refused: BadSh
 
 pub record Heads : Type 0 where
   pub is_written : output ([]) heads_input ≡ record { bytes = heads_written; status = Errors }
+
+-- improper events
+abbrev pub improper_events_input : List ℕ
+improper_events_input = lines (codes "(mutual-recursion (defun f (x) x) . 5)" ∷ codes "(mutual-recursion . 5)" ∷ codes "(defun . 5)" ∷ codes "(defconst . 5)" ∷ codes "(defpkg . 5)" ∷ codes "(in-package . \"ACL2\")" ∷ codes "(in-package \"ACL2\" \"x\")" ∷ codes "(defpkg \"P\" nil \"a\" \"b\")" ∷ codes "(defconst *a* 1 'x)" ∷ codes "(defmacro . 5)" ∷ codes "(defmacro m (x . y) x)" ∷ codes "(defmacro m (&optional (x . 5)) x)" ∷ codes "(defmacro m (x) (declare (type (satisfies nope) x)) x)" ∷ codes "(defun f (x) (declare (type integer x) . 5) x)" ∷ codes "(defun f (&optional x) x)" ∷ codes "(defmacro m2 (&key x &allow-other-keys) x)" ∷ codes "(defstobj st (a))" ∷ codes "(car (st 1))" ∷ codes "(car (:foo))" ∷ codes "(defconst *c* 5)" ∷ codes "(*c* 1)" ∷ codes "(defpkg \"P\" (st))" ∷ codes "(defpkg \"P\" (list (a st)))" ∷ codes "(defpkg \"P\" '(a . b))" ∷ codes "(defpkg \"ACL2\" '(a 5))" ∷ codes "(defpkg \"ACL2\" '(a :a))" ∷ codes "(in-package \"KEYWORD\")" ∷ codes "foo" ∷ codes "(car 5)" ∷ codes "(acl2::car 5)" ∷ codes "(acl2::defun f (x) x)" ∷ codes "(acl2::defconst *a* 1)" ∷ codes "(show st)" ∷ codes "(show acl2::st)" ∷ codes "(cells)" ∷ codes "(5)" ∷ codes "(acl2::defabsstobj)" ∷ codes "(acl2::let ((x 1)) x)" ∷ codes "(acl2::update-a 'x acl2::st)" ∷ codes "acl2::st" ∷ [])
+
+abbrev pub improper_events_written : List ℕ
+improper_events_written = lines (codes "Refused: BadShape MUTUAL-RECURSION" ∷ codes "Refused: BadShape MUTUAL-RECURSION" ∷ codes "Refused: BadShape DEFUN" ∷ codes "Refused: BadShape DEFCONST" ∷ codes "Refused: BadShape DEFPKG" ∷ codes "Refused: BadShape IN-PACKAGE" ∷ codes "Refused: BadShape IN-PACKAGE" ∷ codes "Refused: BadShape DEFPKG" ∷ codes "Refused: BadShape DEFCONST" ∷ codes "Refused: BadShape DEFMACRO" ∷ codes "Refused: BadShape DEFMACRO" ∷ codes "Refused: BadShape DEFMACRO" ∷ codes "M" ∷ codes "Refused: BadShape DEFUN" ∷ codes "Refused: BadName &OPTIONAL" ∷ codes "Refused: BadName &ALLOW-OTHER-KEYS" ∷ codes "ST" ∷ codes "Refused: UnknownFunction ST" ∷ codes "Refused: UnknownFunction :FOO" ∷ codes "*C*" ∷ codes "Refused: UnknownFunction *C*" ∷ codes "Refused: UnknownFunction ST" ∷ codes "Refused: S1 at (0 0)" ∷ codes "Refused: BadShape DEFPKG" ∷ codes "Refused: BadShape DEFPKG" ∷ codes "Refused: PackageExists \"ACL2\"" ∷ codes "\"KEYWORD\"" ∷ codes ":FOO" ∷ codes "Refused: NotSupported :CAR" ∷ codes "Guard violation: (COMMON-LISP::CAR 5)" ∷ codes "Refused: BadName :F" ∷ codes ":*A*" ∷ codes "Refused: BadShape :SHOW" ∷ codes "(COMMON-LISP::NIL)" ∷ codes "0" ∷ codes "Refused: BadShape COMMON-LISP::NIL" ∷ codes "Refused: BadShape ACL2::DEFABSSTOBJ" ∷ codes "Refused: BadShape COMMON-LISP::LET" ∷ codes "<st>" ∷ codes "<st>" ∷ codes "; 40 commands, 3 calls, 30 errors" ∷ [])
+
+pub record ImproperEvents : Type 0 where
+  pub is_written : output ([]) improper_events_input ≡ record { bytes = improper_events_written; status = Errors }
 
 -- keys in order
 abbrev pub keys_in_order_input : List ℕ
@@ -202,6 +252,16 @@ logical_macros_written = lines (codes "T" ∷ codes "1" ∷ codes "NIL" ∷ code
 
 pub record LogicalMacros : Type 0 where
   pub is_written : output ([]) logical_macros_input ≡ record { bytes = logical_macros_written; status = Errors }
+
+-- lower case
+abbrev pub lower_case_input : List ℕ
+lower_case_input = lines (codes "(defstobj |st| (|a| :type integer :initially 0))" ∷ codes "(|UPDATE-a| 5 |st|)" ∷ codes "(|aP| 'x)" ∷ codes "(|CREATE-st|)" ∷ codes "(update-a 5 |st|)" ∷ codes "(|a| |st| 1)" ∷ codes "(defun |lap| (x) (declare (ignore x)) t)" ∷ codes "(defun |mka| () nil)" ∷ codes "(defun |l1| (x) x)" ∷ codes "(defabsstobj |ab| :foundation |st| :recognizer (r :logic |lap|) :creator (|mk| :logic |mka|) :corr-fn equal :exports ((|get| :logic |l1| :exec |a|)))" ∷ codes "(|get| |ab|)" ∷ codes "|ab|" ∷ [])
+
+abbrev pub lower_case_written : List ℕ
+lower_case_written = lines (codes "|st|" ∷ codes "<st>" ∷ codes "NIL" ∷ codes "Refused: S12 at ()" ∷ codes "Refused: UnknownFunction UPDATE-A" ∷ codes "Refused: Arity |a|" ∷ codes "|lap|" ∷ codes "|mka|" ∷ codes "|l1|" ∷ codes "|ab|" ∷ codes "mk{CORRESPONDENCE}: (EQUAL (|CREATE-st|) (|mka|))" ∷ codes "mk{PRESERVED}: (|lap| (|mka|))" ∷ codes "get{CORRESPONDENCE}: (IMPLIES (EQUAL |st| |ab|) (EQUAL (|l1| |ab|) (|a| |st|)))" ∷ codes "0" ∷ codes "<ab>" ∷ codes "; 12 commands, 4 calls, 3 errors" ∷ [])
+
+pub record LowerCase : Type 0 where
+  pub is_written : output ([]) lower_case_input ≡ record { bytes = lower_case_written; status = Errors }
 
 -- macro refusals
 abbrev pub macro_refusals_input : List ℕ
@@ -302,6 +362,16 @@ rest_and_keys_written = lines (codes "M2" ∷ codes "(1 (2 3))" ∷ codes "(1 NI
 
 pub record RestAndKeys : Type 0 where
   pub is_written : output ([]) rest_and_keys_input ≡ record { bytes = rest_and_keys_written; status = Errors }
+
+-- steps in events
+abbrev pub steps_in_events_input : List ℕ
+steps_in_events_input = lines (codes "(defconst *a* (cons (cons 1 2) (cons 3 4)))" ∷ codes "(defconst *a* (list 1 2 3))" ∷ codes "(defpkg \"P\" (list 'a 'b))" ∷ codes "(and (and (and 1 2) 3) 4)" ∷ codes "(defun f (x) (list (list (list x))))" ∷ codes "(defun g (x) (declare (xargs :guard (and x x))) (list (list x)))" ∷ codes "(defmacro m (x) (list 'quote x))" ∷ codes "(m 1)" ∷ codes "(and (and (1+ 1 2) 3) 4)" ∷ codes "(1+ 1 2)" ∷ [])
+
+abbrev pub steps_in_events_written : List ℕ
+steps_in_events_written = lines (codes "Step limit" ∷ codes "Step limit" ∷ codes "Step limit" ∷ codes "Refused: MacroStopped: Step limit" ∷ codes "Refused: MacroStopped: Step limit" ∷ codes "Refused: MacroStopped: Step limit" ∷ codes "M" ∷ codes "Refused: MacroStopped: Step limit" ∷ codes "Refused: MacroStopped: Step limit" ∷ codes "Refused: BadShape 1+" ∷ codes "; 10 commands, 18 calls, 9 errors" ∷ [])
+
+pub record StepsInEvents : Type 0 where
+  pub is_written : output (codes "--steps" ∷ codes "2" ∷ []) steps_in_events_input ≡ record { bytes = steps_in_events_written; status = Errors }
 
 -- the of types
 abbrev pub the_of_types_input : List ℕ

@@ -2,7 +2,7 @@
 //! tools/rows.py from the files in rows/.
 #![tactic(auto)]
 
-ghost use Rattle.model_event_rows.specs.Rows.{AbstractOutputs, AbstractRefusals, ArithmeticMacros, BindingForms, ChildrenRules, Congruence, Constants, CoreShapes, CountsAtRefusals, Declarations, DeclaredTypes, Formals, FunctionNames, FunctionShapes, Heads, KeysInOrder, Limits, ListMacros, ListsAtStops, LogicalMacros, MacroRefusals, MacrosStop, NestedOnceTooDeep, ObjectFunctions, ObjectRefusals, ObjectShapes, OptionalFormals, OtherMacros, Packages, RestAndKeys, TheOfTypes, ThreadRules};
+ghost use Rattle.model_event_rows.specs.Rows.{AbstractOutputs, AbstractRefusals, ArithmeticMacros, BarePackage, BindingForms, ChildrenRules, Congruence, Constants, CoreShapes, CountsAtRefusals, Declarations, DeclaredTypes, DeepRefused, DeepTaken, DefaultNames, Formals, FunctionNames, FunctionShapes, Heads, ImproperEvents, KeysInOrder, Limits, ListMacros, ListsAtStops, LogicalMacros, LowerCase, MacroRefusals, MacrosStop, NestedOnceTooDeep, ObjectFunctions, ObjectRefusals, ObjectShapes, OptionalFormals, OtherMacros, Packages, RestAndKeys, StepsInEvents, TheOfTypes, ThreadRules};
 
 /// The row `abstract_outputs`.
 #[tactic(auto, using(crate::proofs::RowAbstractOutputs::is_computed))]
@@ -20,6 +20,12 @@ pub fn abstract_refusals()
 #[tactic(auto, using(crate::proofs::RowArithmeticMacros::is_computed))]
 pub fn arithmetic_macros()
     ensures { ArithmeticMacros }
+{}
+
+/// The row `bare_package`.
+#[tactic(auto, using(crate::proofs::RowBarePackage::is_computed))]
+pub fn bare_package()
+    ensures { BarePackage }
 {}
 
 /// The row `binding_forms`.
@@ -70,6 +76,24 @@ pub fn declared_types()
     ensures { DeclaredTypes }
 {}
 
+/// The row `deep_refused`.
+#[tactic(auto, using(crate::proofs::RowDeepRefused::is_computed))]
+pub fn deep_refused()
+    ensures { DeepRefused }
+{}
+
+/// The row `deep_taken`.
+#[tactic(auto, using(crate::proofs::RowDeepTaken::is_computed))]
+pub fn deep_taken()
+    ensures { DeepTaken }
+{}
+
+/// The row `default_names`.
+#[tactic(auto, using(crate::proofs::RowDefaultNames::is_computed))]
+pub fn default_names()
+    ensures { DefaultNames }
+{}
+
 /// The row `formals`.
 #[tactic(auto, using(crate::proofs::RowFormals::is_computed))]
 pub fn formals()
@@ -92,6 +116,12 @@ pub fn function_shapes()
 #[tactic(auto, using(crate::proofs::RowHeads::is_computed))]
 pub fn heads()
     ensures { Heads }
+{}
+
+/// The row `improper_events`.
+#[tactic(auto, using(crate::proofs::RowImproperEvents::is_computed))]
+pub fn improper_events()
+    ensures { ImproperEvents }
 {}
 
 /// The row `keys_in_order`.
@@ -122,6 +152,12 @@ pub fn lists_at_stops()
 #[tactic(auto, using(crate::proofs::RowLogicalMacros::is_computed))]
 pub fn logical_macros()
     ensures { LogicalMacros }
+{}
+
+/// The row `lower_case`.
+#[tactic(auto, using(crate::proofs::RowLowerCase::is_computed))]
+pub fn lower_case()
+    ensures { LowerCase }
 {}
 
 /// The row `macro_refusals`.
@@ -182,6 +218,12 @@ pub fn packages()
 #[tactic(auto, using(crate::proofs::RowRestAndKeys::is_computed))]
 pub fn rest_and_keys()
     ensures { RestAndKeys }
+{}
+
+/// The row `steps_in_events`.
+#[tactic(auto, using(crate::proofs::RowStepsInEvents::is_computed))]
+pub fn steps_in_events()
+    ensures { StepsInEvents }
 {}
 
 /// The row `the_of_types`.

@@ -3,7 +3,7 @@ use Rattle.std.specs.Prelude.{ℕ, ◌+◌, List, [], ◌∷◌, ◌++◌, map, 
 use Rattle.std.specs.Option.{option_or, option_map_or}
 use Rattle.std.specs.List.{flat_map, zip, list_all}
 use Rattle.model_objects.specs.Object.{Object, Integer, Symbol, Text, Pair}
-use Rattle.model_symbols.specs.Symbols.{QualifiedName, Package}
+use Rattle.model_symbols.specs.Symbols.{QualifiedName, Package, number_of}
 use Rattle.model_symbols.specs.Opening.{nil}
 use Rattle.model_terms.specs.declared.rule.Mode.TheVariants.{Executable}
 use Rattle.model_terms.specs.declared.role.AbstractRole.{AbstractRole}
@@ -24,7 +24,7 @@ use Rattle.model_expansion.specs.Expansion.{Progress}
 use Rattle.model_stobjs.specs.Answers.{Answer, Grants, unless, needing, first_given}
 use Rattle.model_stobjs.specs.Heads.{name_in_use, bad_name}
 use Rattle.model_stobjs.specs.Keys.{Keyed, key_value, is_given, keys_in}
-use Rattle.model_stobjs.specs.Objects.{Making, MadeNames, names_made, number_at, room_for}
+use Rattle.model_stobjs.specs.Objects.{Making, MadeNames, symbol_beside, names_made, number_at, room_for}
 use Rattle.model_stobjs.specs.Guards.{Renaming, renamed_core, with_functions, binds, generated_guard}
 
 -- ---- as it is written
@@ -115,11 +115,25 @@ abbrev pub listed : Option (Object ℕ) → List (Object ℕ)
 listed None = []
 listed (Some o) = o ∷ []
 
-abbrev pub names_tested : WrittenAbstract → List (Object ℕ)
-names_tested a = a.name ∷ (listed a.recognizer.name ++ (listed a.creator.name ++ flat_map (λ (f : WrittenFunction). listed f.name) a.exports))
-
 abbrev pub number : Object ℕ → ℕ
 number o = unwrap_or (symbol o) nil
+
+-- the symbol that a name made beside another would be, where it is known; one that is not known is of that other's own package
+abbrev pub known_beside : List Package → List QualifiedName → Making → Option (Object ℕ)
+known_beside packages symbols m = option_map (λ n. Symbol n) (number_of symbols (symbol_beside packages [] symbols m))
+
+abbrev pub name_or_made : List Package → List QualifiedName → WrittenFunction → Making → List (Object ℕ)
+name_or_made packages symbols f m = listed (option_or f.name (known_beside packages symbols m))
+
+-- the names of the object, the recognizer, the creator and the exports, written or made
+abbrev pub names_tested : List Package → List QualifiedName → WrittenAbstract → List (Object ℕ)
+names_tested packages symbols a =
+    let st = number a.name in
+    let text = name_of symbols st in
+    a.name
+    ∷ (name_or_made packages symbols a.recognizer (st, text ++ codes "P")
+    ++ (name_or_made packages symbols a.creator (st, codes "CREATE-" ++ text)
+    ++ flat_map (λ (f : WrittenFunction). listed f.name) a.exports))
 
 abbrev pub name_number : WrittenFunction → ℕ
 name_number f = option_map_or number f.name nil
@@ -403,7 +417,7 @@ module _ (w : World) where
 
   abbrev pub abstract_then : List Package → WrittenAbstract → Progress → Answer AbstractDescriptor
   abstract_then packages a p =
-      unless (bad_name p.symbols (names_tested a)) (λ after. made_then a (names_made packages [] (makings (slots after.symbols a)) after.symbols) after) p
+      unless (bad_name p.symbols (names_tested packages p.symbols a)) (λ after. made_then a (names_made packages [] (makings (slots after.symbols a)) after.symbols) after) p
 
   -- the descriptor of what stands behind the head `DEFABSSTOBJ`
   unfoldable pub abstract_read : List Package → Object ℕ → Progress → Answer AbstractDescriptor
