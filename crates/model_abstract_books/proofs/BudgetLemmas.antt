@@ -1,26 +1,30 @@
 -- A command is answered alike at every larger budget.
-use Rattle.std.proofs.Common.{◌≡◌, ◌∙◌, ℕ, ◌≤◌, Bool, true, false, Option, Some, None, refl, sym, arith, inl, inr}
-use Rattle.std.specs.Prelude.{List, if◌then◌else◌}
-use Rattle.std.specs.Option.{option_map_or}
+use Rattle.std.proofs.Common.{◌≡◌, ◌∙◌, ℕ, ◌≤◌, [], ◌∷◌, Bool, true, false, Option, Some, None, refl, sym, arith, inl, inr}
+use Rattle.std.specs.Prelude.{List, nat_eq, option_map, option_and_then, if◌then◌else◌}
+use Rattle.std.specs.Option.{option_map_or, option_or}
 use Rattle.std.proofs.lemmas.Bool.{cases_lt}
 use Rattle.model_objects.specs.Object.{Object, Integer, Symbol, Text, Pair}
 use Rattle.model_symbols.specs.Symbols.{QualifiedName}
 use Rattle.model_lists.specs.Lists.{ObjectList}
 use Rattle.model_terms.specs.Cores.{Core}
-use Rattle.model_terms.specs.Faults.{Fault, expression_fault}
+use Rattle.model_terms.specs.Faults.{Fault, expression_fault, constant_fault}
 use Rattle.model_eval.specs.Outcomes.{Ended, Gives, Stops, Unknown}
 use Rattle.model_eval.specs.Checked.{live}
 use Rattle.model_eval.specs.AbstractRules.{abstract_fresh}
 use Rattle.model_eval_laws.specs.Budgets.{HasOutcome}
 use Rattle.model_eval_laws.proofs.AbstractBudgetLemmas.{abstract_budgets_agree}
-use Rattle.model_expansion.specs.Forms.{symbol, among, is_keyword}
+use Rattle.model_eval.specs.Logic.{Thing}
+use Rattle.model_expansion.specs.Words.{defconst_word, defpkg_word}
+use Rattle.model_expansion.specs.Faults.{Refusal, Thread}
+use Rattle.model_expansion.specs.Forms.{elements, symbol, among, is_keyword}
 use Rattle.model_expansion.specs.Expansion.{Progress, Expanded, Makes, Fails, expanded}
 use Rattle.model_stobjs.specs.Answers.{Answer, Grants, Refuses, Halts}
-use Rattle.model_stobjs.specs.Heads.{event_heads, is_skipped, is_unsupported}
-use Rattle.model_events.specs.Events.{Limits, Admitted, setting, admitted}
+use Rattle.model_stobjs.specs.Heads.{event_heads, is_skipped, is_unsupported, name_in_use}
+use Rattle.model_events.specs.Constants.{name_and_form, bad_constant_name, number, text_and_form}
+use Rattle.model_events.specs.Events.{Limits, Admitted, Name, setting, admitted}
 use Rattle.model_books.specs.Opening.{Session}
-use Rattle.model_books.specs.Commands.{Ways, at_start, live_scope, keyword_way, headed_way, way_of}
-use Rattle.model_abstract_books.specs.Commands.{Lists, AbstractOutcome, book_of, with_value, created_outcome, event_outcome, evaluated_outcome, begun, core_outcome, expanded_outcome, ways, abstract_command, AnswersAbstractly}
+use Rattle.model_books.specs.Commands.{Event, Ways, at_start, live_scope, keyword_way, headed_way, way_of, command}
+use Rattle.model_abstract_books.specs.Commands.{Lists, AbstractOutcome, book_of, with_value, created_outcome, event_outcome, evaluated_outcome, begun, evaluated_on, outcome, unless_refused, constant_ended, constant_made, constant_outcome, names_in, package_refusal, package_answer, package_outcome, event_way, core_outcome, expanded_outcome, ways, abstract_command, AnswersAbstractly}
 use Rattle.model_abstract_books.specs.Laws.{AnswersAreDetermined}
 
 -- the second is the first, where the first is an outcome
@@ -87,10 +91,50 @@ module _ (m n : ℕ) (larger : m ≤ n) (k : Limits) (s : Session) (lists : List
   evaluated_kept (Stops stop inside state) t h = rw (h tt) refl
   evaluated_kept Unknown t h = tt
 
+  on_kept : (scope : Lists) (f : Core) (p : Progress) → HasOutcome (evaluated_on m k s lists scope f p) → evaluated_on n k s lists scope f p ≡ evaluated_on m k s lists scope f p
+  on_kept scope f p = abstract_budgets_agree.same (book_of s.standing p.symbols) m n k.steps k.depth f (live scope) (begun m k s lists scope p) larger
+
+  -- ---- constants and packages
+
+  unless_kept : (r : Option Refusal) (p : Progress) (x y : Option AbstractOutcome) → Kept x y → Kept (unless_refused m k s lists r p x) (unless_refused n k s lists r p y)
+  unless_kept (Some r) p x y h = refl
+  unless_kept None p x y h = h
+
+  ended_kept : (go : Thing → ℕ → Option AbstractOutcome) (r t : Ended QualifiedName) → (HasOutcome r → t ≡ r) → Kept (constant_ended m k s lists go r) (constant_ended n k s lists go t)
+  ended_kept go (Gives values state) t h = rw (h tt) (kept_same _)
+  ended_kept go (Stops stop inside state) t h = rw (h tt) refl
+  ended_kept go Unknown t h = tt
+
+  made_kept : (go : Thing → ℕ → Option AbstractOutcome) (x : Expanded Core) → Kept (constant_made m k s lists go x) (constant_made n k s lists go x)
+  made_kept go (Makes f p) =
+      unless_kept (option_map Thread (constant_fault s.standing.world f)) p _ _
+      (ended_kept go (evaluated_on m k s lists [] f p) (evaluated_on n k s lists [] f p) (on_kept [] f p))
+  made_kept go (Fails fault p) = refl
+
+  constant_kept : (c : Option (Object ℕ × Object ℕ)) → Kept (constant_outcome m k s lists c) (constant_outcome n k s lists c)
+  constant_kept None = refl
+  constant_kept (Some c) =
+      unless_kept (option_or (bad_constant_name s.symbols c.0) (name_in_use s.standing.world (number c.0 ∷ []))) (at_start s.symbols) _ _
+      (made_kept (λ v calls. outcome m k s lists lists (Event (Name (number c.0))) calls) (expanded (setting s.standing k) c.1 (at_start s.symbols)))
+
+  package_kept : (symbols : List QualifiedName) (c : Option (List ℕ × Object ℕ)) → Kept (package_outcome m k s lists symbols c) (package_outcome n k s lists symbols c)
+  package_kept symbols None = refl
+  package_kept symbols (Some c) =
+      made_kept (λ v calls. outcome m k s lists lists (package_answer m k s lists c.0 (package_refusal m k s lists symbols c.0 (names_in m k s lists v))) calls)
+      (expanded (setting s.standing k) c.1 (at_start s.symbols))
+
+  events_kept : (head : ℕ) (d : Object ℕ) → Kept (event_way m k s lists head d) (event_way n k s lists head d)
+  events_kept head d =
+      kept_if (nat_eq head defconst_word) _ _ _ _ (constant_kept (option_and_then name_and_form (elements d)))
+      (kept_if (nat_eq head defpkg_word) _ _ _ _ (package_kept (command k s (Pair (Symbol head) d)).session.symbols (text_and_form d))
+      (event_kept (admitted s.standing k head d (at_start s.symbols))))
+
+  -- ---- expressions
+
   core_kept : (f : Core) (p : Progress) (fault : Option Fault) → Kept (core_outcome m k s lists f p fault) (core_outcome n k s lists f p fault)
   core_kept f p (Some fault) = refl
   core_kept f p None =
-      evaluated_kept _ _ (abstract_budgets_agree.same (book_of s.standing p.symbols) m n k.steps k.depth f (live lists) (begun m k s lists p) larger)
+      evaluated_kept (evaluated_on m k s lists lists f p) (evaluated_on n k s lists lists f p) (on_kept lists f p)
 
   expanded_kept : (x : Expanded Core) → Kept (expanded_outcome m k s lists x) (expanded_outcome n k s lists x)
   expanded_kept (Makes f p) = core_kept f p (expression_fault s.standing.world (live_scope lists) f)
@@ -100,7 +144,7 @@ module _ (m n : ℕ) (larger : m ≤ n) (k : Limits) (s : Session) (lists : List
   unfolding abstract_command
   command_kept form =
       way_kept (ways m k s lists) (ways n k s lists).event (ways n k s lists).expression s.symbols
-      (λ head d. event_kept (admitted s.standing k head d (at_start s.symbols)))
+      events_kept
       (λ f. expanded_kept (expanded (setting s.standing k) f (at_start s.symbols))) form
 
 -- ---- the laws

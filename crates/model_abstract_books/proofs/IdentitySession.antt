@@ -33,7 +33,7 @@ use Rattle.model_books.specs.GeneratedBook.{generated_book}
 use Rattle.model_books.specs.ProgramWords.{given}
 use Rattle.model_abstract_books.specs.Answers.{answer_named, is_excepted}
 use Rattle.model_abstract_books.specs.Commands.{abstract_command}
-use Rattle.model_abstract_books.specs.Books.{played, book_played}
+use Rattle.model_abstract_books.specs.Books.{prints_foundations, played, book_played}
 use Rattle.model_eval.specs.Logic.{form_value, form_values, call_within}
 use Rattle.model_eval.specs.AbstractRules.{bounded_value}
 use Rattle.model_eval.specs.LogicFunctions.{logic_access, logic_update, logic_effect}
@@ -140,9 +140,9 @@ known_standing = record { world = opening_world ++ entries; packages = opening.p
 -- ---- the session, computed
 
 pub symbols_known : identity_session.symbols ≡ known_symbols
-unfolding bounded_value logic_access logic_update logic_effect identity_book identity_session answer_named is_excepted abstract_command played book_played form_value form_values call_within digits common_lisp_text acl2_text common_lisp_symbols acl2_symbols acl2_package opening token_of step next_at recognizer_guard relation_guard arithmetic_guard listing_guard naming_guard guard bounded applied_to recognized related computed listed named_by wanted table accessed changed lengthened hash_read hash_bound hash_looked_up hash_put hash_removed below below_parts below_actuals stobj_let_holds with_local_holds first_in first_at first_fault outputs layout_within effect exec_called called in_order all_borrowed put_back evaluated core_object core_objects binding_objects obligations name_in_use constant_read package_read current_read written_macro macro_read written_abstract abstract_read written_object nesting_within shape_of names_made descriptor_read renamed_core renamed_cores with_functions all_with_functions binds any_binds generated_guard macro_values look_at settled grown_all grown made_of admitted written_fault functions_read declarations summary_text answers output opening_world opening_session command answer_lines generated_book given known_symbols entries known_standing
+unfolding bounded_value logic_access logic_update logic_effect identity_book identity_session answer_named is_excepted abstract_command played prints_foundations book_played form_value form_values call_within digits common_lisp_text acl2_text common_lisp_symbols acl2_symbols acl2_package opening token_of step next_at recognizer_guard relation_guard arithmetic_guard listing_guard naming_guard guard bounded applied_to recognized related computed listed named_by wanted table accessed changed lengthened hash_read hash_bound hash_looked_up hash_put hash_removed below below_parts below_actuals stobj_let_holds with_local_holds first_in first_at first_fault outputs layout_within effect exec_called called in_order all_borrowed put_back evaluated core_object core_objects binding_objects obligations name_in_use constant_read package_read current_read written_macro macro_read written_abstract abstract_read written_object nesting_within shape_of names_made descriptor_read renamed_core renamed_cores with_functions all_with_functions binds any_binds generated_guard macro_values look_at settled grown_all grown made_of admitted written_fault functions_read declarations summary_text answers output opening_world opening_session command answer_lines generated_book given known_symbols entries known_standing
 symbols_known = refl
 
 pub standing_known : identity_session.standing ≡ known_standing
-unfolding bounded_value logic_access logic_update logic_effect identity_book identity_session answer_named is_excepted abstract_command played book_played form_value form_values call_within digits common_lisp_text acl2_text common_lisp_symbols acl2_symbols acl2_package opening token_of step next_at recognizer_guard relation_guard arithmetic_guard listing_guard naming_guard guard bounded applied_to recognized related computed listed named_by wanted table accessed changed lengthened hash_read hash_bound hash_looked_up hash_put hash_removed below below_parts below_actuals stobj_let_holds with_local_holds first_in first_at first_fault outputs layout_within effect exec_called called in_order all_borrowed put_back evaluated core_object core_objects binding_objects obligations name_in_use constant_read package_read current_read written_macro macro_read written_abstract abstract_read written_object nesting_within shape_of names_made descriptor_read renamed_core renamed_cores with_functions all_with_functions binds any_binds generated_guard macro_values look_at settled grown_all grown made_of admitted written_fault functions_read declarations summary_text answers output opening_world opening_session command answer_lines generated_book given known_symbols entries known_standing
+unfolding bounded_value logic_access logic_update logic_effect identity_book identity_session answer_named is_excepted abstract_command played prints_foundations book_played form_value form_values call_within digits common_lisp_text acl2_text common_lisp_symbols acl2_symbols acl2_package opening token_of step next_at recognizer_guard relation_guard arithmetic_guard listing_guard naming_guard guard bounded applied_to recognized related computed listed named_by wanted table accessed changed lengthened hash_read hash_bound hash_looked_up hash_put hash_removed below below_parts below_actuals stobj_let_holds with_local_holds first_in first_at first_fault outputs layout_within effect exec_called called in_order all_borrowed put_back evaluated core_object core_objects binding_objects obligations name_in_use constant_read package_read current_read written_macro macro_read written_abstract abstract_read written_object nesting_within shape_of names_made descriptor_read renamed_core renamed_cores with_functions all_with_functions binds any_binds generated_guard macro_values look_at settled grown_all grown made_of admitted written_fault functions_read declarations summary_text answers output opening_world opening_session command answer_lines generated_book given known_symbols entries known_standing
 standing_known = refl

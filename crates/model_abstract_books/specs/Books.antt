@@ -1,13 +1,15 @@
 -- A book, each command answered twice: by checked evaluation, and by abstract evaluation on lists of its own.
-use Rattle.std.specs.Prelude.{◌≡◌, ℕ, zero, suc, ◌+◌, ◌-◌, List, [], ◌∷◌, map, length, drop, true, Option, Some, None, if◌then◌else◌}
+use Rattle.std.specs.Prelude.{◌≡◌, ℕ, zero, suc, ◌+◌, ◌-◌, List, [], ◌∷◌, map, length, drop, nat_eq, Bool, true, false, Option, Some, None, option_map, if◌then◌else◌}
+use Rattle.std.specs.Map.{lookup}
 use Rattle.model_objects.specs.Object.{Object}
 use Rattle.model_symbols.specs.Symbols.{QualifiedName}
 use Rattle.model_text.specs.Next.{Next, Stands, Nothing, End, Faulty, next_at}
 use Rattle.model_lists.specs.Lists.{ObjectList}
 use Rattle.model_eval.specs.Outcomes.{Objects}
+use Rattle.model_terms.specs.Worlds.{Definition, Primitive, Defined, Macro, Constant, Concrete, Generated, Abstract, OfAbstract, Named, Signed, definition}
 use Rattle.model_events.specs.Events.{Limits}
 use Rattle.model_books.specs.Opening.{Session, opening_session}
-use Rattle.model_books.specs.Commands.{Answered, Outcome, command}
+use Rattle.model_books.specs.Commands.{Answered, Outcome, Ways, way_of, command}
 use Rattle.model_books.specs.Lines.{Bytes}
 use Rattle.model_books.specs.Output.{numbered}
 use Rattle.model_eval.specs.AbstractRules.{named_list}
@@ -25,7 +27,38 @@ told o = record { answer = answer_named o.session.symbols o.answer; calls = o.ou
 abbrev pub told_abstractly : AbstractOutcome → Told
 told_abstractly o = record { answer = o.answer; calls = o.calls }
 
--- both answers to each command, and where the book ends
+-- ---- commands that print the foundations of abstract objects
+
+abbrev pub is_abstract : Option Definition → Bool
+is_abstract None = false
+is_abstract (Some (Primitive name row)) = false
+is_abstract (Some (Defined f)) = false
+is_abstract (Some (Macro name formals body)) = false
+is_abstract (Some (Constant name value)) = false
+is_abstract (Some (Concrete d class)) = false
+is_abstract (Some (Generated g)) = false
+is_abstract (Some (Abstract d)) = true
+is_abstract (Some (OfAbstract f)) = false
+is_abstract (Some (Named name formals)) = false
+is_abstract (Some (Signed name formals signature executable)) = false
+
+abbrev pub foundation_ways : Session → Ways Bool
+foundation_ways s = record {
+  event = λ head d. false;
+  skipped = false;
+  refused = λ r. false;
+  expression = λ form. false;
+  show = λ x. option_map (λ l. is_abstract (definition s.standing.world x)) (lookup (nat_eq x) s.objects);
+  cells = true;
+}
+
+-- `(:CELLS)`, and `(:SHOW st)` of a live abstract object
+unfoldable pub prints_foundations : Session → Object ℕ → Bool
+prints_foundations s form = way_of (foundation_ways s) s.symbols form
+
+-- ---- books
+
+-- both answers to each command that is compared, and where the book ends
 pub record Played : Type 0 where
   pub answers : List (Told × Option Told)
   pub session : Session
@@ -47,9 +80,16 @@ module _ (budget : ℕ) (k : Limits) where
   abbrev pub unless_excepted : Session → Lists → Outcome → Played → Played
   unless_excepted s lists o others = if is_excepted o.answer then at_end s lists else others
 
+  -- a command that prints foundations: its answers are not compared
+  abbrev pub unseen : (Session → Lists → Played) → Outcome → Lists → Option AbstractOutcome → Played
+  unseen go o lists None = at_end o.session lists
+  unseen go o lists (Some a) = go o.session a.lists
+
   abbrev pub commanded : (Session → Lists → Played) → Session → Lists → Object ℕ → Played
   commanded go s lists form =
-      let o = command k s form in unless_excepted s lists o (played_on go o lists (abstract_command budget k s lists form))
+      let o = command k s form in
+      let a = abstract_command budget k s lists form in
+      unless_excepted s lists o (if prints_foundations s form then unseen go o lists a else played_on go o lists a)
 
   abbrev pub next_played : Session → Lists → (ℕ → Session → Lists → Played) → Next → Played
   next_played s lists go (Stands f end symbols) = commanded (go end) (record s { symbols = symbols }) lists (numbered symbols f)
@@ -81,7 +121,7 @@ ends_of symbols [] lists = []
 ends_of symbols (o ∷ os) [] = []
 ends_of symbols (o ∷ os) (l ∷ ls) = (named_list symbols o.1, l.1) ∷ ends_of symbols os ls
 
--- so many commands are answered alike, with as many calls, and end with these lists
+-- so many commands are compared and answered alike, with as many calls, and the book ends with these lists
 pub record FollowsTheLogic (p : Played) (commands : ℕ) (ends : Ends) : Type 0 where
   pub count : length p.answers ≡ commands
   pub answers : checked_answers p ≡ abstract_answers p

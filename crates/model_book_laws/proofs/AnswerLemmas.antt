@@ -6,11 +6,11 @@ use Rattle.model_eval.specs.Outcomes.{Ended, Gives, Stops, Unknown}
 use Rattle.model_eval.specs.Checked.{begun}
 use Rattle.model_eval_laws.specs.Counting.{Counts}
 use Rattle.model_expansion.specs.Faults.{Refusal}
-use Rattle.model_expansion.specs.Expansion.{Progress, Expanded, Makes, Fails}
+use Rattle.model_expansion.specs.Expansion.{Progress, progress_after, Expanded, Makes, Fails}
 use Rattle.model_expansion_laws.specs.Counting.{Advanced, Advances}
-use Rattle.model_expansion_laws.proofs.CountLemmas.{advanced_same, advanced_then}
+use Rattle.model_expansion_laws.proofs.CountLemmas.{advanced_same, advanced_then, advanced_state}
 use Rattle.model_stobjs.specs.Answers.{Answer, Grants, Refuses, Halts, then_grant, unless, needing, expanding}
-use Rattle.model_events.specs.Constants.{state_progress, valued}
+use Rattle.model_events.specs.Constants.{valued}
 
 module _ (limit : ℕ) where
   -- an event ends with a later progress
@@ -43,8 +43,8 @@ module _ (limit : ℕ) where
 
   pub answers_valued : {A : Type 0} (p : Progress) (r : Ended ℕ) (go : Object ℕ → Progress → Answer A) → Counts limit (begun p.symbols [] p.calls) r → ((o : Object ℕ) (q : Progress) → Answers q (go o q)) → Answers p (valued r go p)
   answers_valued p (Gives values state) go h k =
-      answers_later p (state_progress state) (go _ (state_progress state)) (record { calls = h.calls; within = h.within; symbols = h.symbols }) (k _ (state_progress state))
-  answers_valued p (Stops stop inside state) go h k = record { calls = h.0.calls; within = h.0.within; symbols = h.0.symbols }
+      answers_later p (progress_after p state) (go _ (progress_after p state)) (advanced_state limit p state h) (k _ (progress_after p state))
+  answers_valued p (Stops stop inside state) go h k = advanced_state limit p state h.0
   answers_valued p Unknown go h k = absurd h
 
   pub answers_if : {A : Type 0} (p : Progress) (b : Bool) (r s : Answer A) → Answers p r → Answers p s → Answers p (if b then r else s)

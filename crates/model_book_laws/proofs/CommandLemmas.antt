@@ -15,14 +15,14 @@ use Rattle.model_eval_laws.proofs.Counts.{longer_then}
 use Rattle.model_eval_laws.proofs.CountLemmas.{counts_calls}
 use Rattle.model_expansion.specs.Forms.{elements, symbol, among, is_keyword}
 use Rattle.model_expansion.specs.Faults.{Refusal, NotSupported}
-use Rattle.model_expansion.specs.Expansion.{Progress, Expanded, Makes, Fails}
+use Rattle.model_expansion.specs.Expansion.{Progress, progress_after, Expanded, Makes, Fails}
 use Rattle.model_expansion_laws.specs.Counting.{Advanced, Advances}
 use Rattle.model_expansion_laws.proofs.CountLemmas.{expansion_counts}
 use Rattle.model_stobjs.specs.Answers.{Answer, Grants, Refuses, Halts}
 use Rattle.model_stobjs.specs.Heads.{event_heads, is_skipped, is_unsupported}
 use Rattle.model_events.specs.Events.{Limits, Admitted, setting, admitted}
 use Rattle.model_books.specs.Opening.{Session}
-use Rattle.model_books.specs.Commands.{Answered, Outcome, Ways, only_symbol, cells_way, keyword_way, headed_way, way_of, at_start, live_scope, at_once, event_outcome, state_outcome, evaluated_outcome, core_outcome, expanded_outcome, live_list, ways, command}
+use Rattle.model_books.specs.Commands.{Answered, Outcome, Ways, only_symbol, cells_way, keyword_way, headed_way, way_of, at_start, live_scope, outcome, state_session, at_once, event_outcome, evaluated_outcome, core_outcome, expanded_outcome, live_list, ways, command}
 use Rattle.model_book_laws.specs.Counting.{CommandsCount}
 use Rattle.model_book_laws.proofs.AnswerLemmas.{Answers}
 use Rattle.model_book_laws.proofs.EventLemmas.{answers_admitted}
@@ -93,30 +93,30 @@ module _ (k : Limits) (s : Session) where
   counted_at_once answer = record { counted = omega arith; outer = omega arith; symbols = ([], sym (append-nil s.symbols)) }
 
   counted_event : (a : Answer Admitted) → Answers k.steps (at_start s.symbols) a → IsCounted (event_outcome k s a)
-  counted_event (Grants a p) h = record { counted = h.within (omega arith); outer = omega arith; symbols = h.symbols }
-  counted_event (Refuses r p) h = record { counted = h.within (omega arith); outer = omega arith; symbols = h.symbols }
-  counted_event (Halts stop inside p) h = record { counted = h.within (omega arith); outer = omega arith; symbols = h.symbols }
+  counted_event (Grants a p) h = record { counted = h.within (omega arith); outer = omega (arith, h.outer_calls); symbols = h.symbols }
+  counted_event (Refuses r p) h = record { counted = h.within (omega arith); outer = omega (arith, h.outer_calls); symbols = h.symbols }
+  counted_event (Halts stop inside p) h = record { counted = h.within (omega arith); outer = omega (arith, h.outer_calls); symbols = h.symbols }
 
-  counted_state : (p : Progress) (state : State ℕ) (answer : Answered ℕ) → Advanced k.steps (at_start s.symbols) p → Grown k.steps (begun p.symbols s.objects p.calls) state → IsCounted (state_outcome k s p.calls state answer)
+  counted_state : (p : Progress) (state : State ℕ) (answer : Answered ℕ) → Advanced k.steps (at_start s.symbols) p → Grown k.steps (begun p.symbols s.objects p.calls) state → IsCounted (outcome k s (state_session k s state) answer (progress_after p state))
   counted_state p state answer g h = record {
     counted = h.within (g.within (omega arith));
-    outer = omega (arith, h.outer_calls);
+    outer = omega (arith, g.outer_calls, h.outer_calls);
     symbols = longer_then s.symbols p.symbols state.symbols g.symbols h.symbols;
   }
 
-  counted_evaluated : (p : Progress) (e : Ended ℕ) → Advanced k.steps (at_start s.symbols) p → Counts k.steps (begun p.symbols s.objects p.calls) e → IsCounted (evaluated_outcome k s p.calls e)
+  counted_evaluated : (p : Progress) (e : Ended ℕ) → Advanced k.steps (at_start s.symbols) p → Counts k.steps (begun p.symbols s.objects p.calls) e → IsCounted (evaluated_outcome k s p e)
   counted_evaluated p (Gives values state) g h = counted_state p state _ g h
   counted_evaluated p (Stops stop inside state) g h = counted_state p state _ g h.0
   counted_evaluated p Unknown g h = absurd h
 
   counted_core : (f : Core) (p : Progress) (fault : Option Fault) → Advanced k.steps (at_start s.symbols) p → IsCounted (core_outcome k s f p fault)
-  counted_core f p (Some fault) g = record { counted = g.within (omega arith); outer = omega arith; symbols = g.symbols }
+  counted_core f p (Some fault) g = record { counted = g.within (omega arith); outer = omega (arith, g.outer_calls); symbols = g.symbols }
   counted_core f p None g =
       counted_evaluated p _ g (counts_calls.counts s.standing.world s.standing.packages k.steps k.depth f (live s.objects) (begun p.symbols s.objects p.calls))
 
   counted_expanded : (e : Expanded Core) → Advances k.steps (at_start s.symbols) e → IsCounted (expanded_outcome k s e)
   counted_expanded (Makes f p) h = counted_core f p (expression_fault s.standing.world (live_scope s.objects) f) h
-  counted_expanded (Fails fault p) h = record { counted = h.0.within (omega arith); outer = omega arith; symbols = h.0.symbols }
+  counted_expanded (Fails fault p) h = record { counted = h.0.within (omega arith); outer = omega (arith, h.0.outer_calls); symbols = h.0.symbols }
 
   counted_list : (l : Option (ObjectList ℕ)) (answer : ObjectList ℕ → Answered ℕ) → HoldsIfAny IsCounted (option_map (λ m. at_once k s (answer m)) l)
   counted_list None answer = tt

@@ -66,7 +66,7 @@ adds_names packages renaming (m ∷ ms) symbols =
 
 module _ (limit : ℕ) where
   advanced_names : (p : Progress) (m : MadeNames) → Adds p.symbols m.symbols → Advanced limit p (record p { symbols = m.symbols })
-  advanced_names p m h = record { calls = omega arith; within = λ q. q; symbols = h }
+  advanced_names p m h = record { calls = omega arith; within = λ q. q; outer = omega arith; outer_calls = omega arith; symbols = h }
 
   -- ---- objects
 

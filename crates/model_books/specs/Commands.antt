@@ -16,7 +16,7 @@ use Rattle.model_eval.specs.Worlds.{object_layout}
 use Rattle.model_eval.specs.Checked.{checked, begun, live}
 use Rattle.model_expansion.specs.Forms.{elements, symbol, among, name_of, is_keyword}
 use Rattle.model_expansion.specs.Faults.{Refusal, BadShape, Expand, Thread, NotSupported}
-use Rattle.model_expansion.specs.Expansion.{Setting, Progress, Expanded, Makes, Fails, expanded}
+use Rattle.model_expansion.specs.Expansion.{Setting, Progress, progress_after, Expanded, Makes, Fails, expanded}
 use Rattle.model_stobjs.specs.Answers.{Answer, Grants, Refuses, Halts}
 use Rattle.model_stobjs.specs.Heads.{event_heads, is_skipped, is_unsupported}
 use Rattle.model_events.specs.Events.{Standing, Limits, Said, Admitted, setting, admitted}
@@ -86,7 +86,7 @@ module _ {O : Type 0} (ways : Ways O) (symbols : List QualifiedName) where
 -- ---- answers
 
 abbrev pub at_start : List QualifiedName → Progress
-at_start symbols = record { calls = 0; symbols = symbols }
+at_start symbols = record { calls = 0; outer = 0; symbols = symbols }
 
 -- each live object under its own name
 abbrev pub live_scope : {S : Type 0} → Objects S → Scope
@@ -96,13 +96,12 @@ module _ (k : Limits) (s : Session) where
   abbrev pub with_symbols : Progress → Session
   with_symbols p = record s { symbols = p.symbols }
 
-  -- an answer before a form was evaluated: each call that was counted is an outer one
-  abbrev pub outcome : Session → Answered ℕ → ℕ → Outcome
-  outcome after answer calls = record { session = after; answer = answer; calls = calls; outer = calls }
+  abbrev pub outcome : Session → Answered ℕ → Progress → Outcome
+  outcome after answer p = record { session = after; answer = answer; calls = p.calls; outer = p.outer }
 
   -- an answer that counts nothing and changes nothing
   abbrev pub at_once : Answered ℕ → Outcome
-  at_once answer = outcome s answer 0
+  at_once answer = outcome s answer (at_start s.symbols)
 
   -- ---- events
 
@@ -116,32 +115,28 @@ module _ (k : Limits) (s : Session) where
 
   abbrev pub event_outcome : Answer Admitted → Outcome
   event_outcome (Grants a p) =
-      outcome (record { standing = a.standing; symbols = p.symbols; objects = with_created a.standing a.created }) (Event a.said) p.calls
-  event_outcome (Refuses r p) = outcome (with_symbols p) (Refused r) p.calls
-  event_outcome (Halts stop inside p) = outcome (with_symbols p) (Stopped stop inside) p.calls
+      outcome (record { standing = a.standing; symbols = p.symbols; objects = with_created a.standing a.created }) (Event a.said) p
+  event_outcome (Refuses r p) = outcome (with_symbols p) (Refused r) p
+  event_outcome (Halts stop inside p) = outcome (with_symbols p) (Stopped stop inside) p
 
   -- ---- expressions
 
   abbrev pub state_session : State ℕ → Session
   state_session state = record s { symbols = state.symbols; objects = state.objects }
 
-  -- after so many calls of the expansion
-  abbrev pub state_outcome : ℕ → State ℕ → Answered ℕ → Outcome
-  state_outcome used state answer = record { session = state_session state; answer = answer; calls = state.calls; outer = used + state.outer }
-
-  abbrev pub evaluated_outcome : ℕ → Ended ℕ → Outcome
-  evaluated_outcome used (Gives values state) = state_outcome used state (Values values)
-  evaluated_outcome used (Stops stop inside state) = state_outcome used state (Stopped stop inside)
-  evaluated_outcome used Unknown = at_once (Stopped Depth None)
+  abbrev pub evaluated_outcome : Progress → Ended ℕ → Outcome
+  evaluated_outcome p (Gives values state) = outcome (state_session state) (Values values) (progress_after p state)
+  evaluated_outcome p (Stops stop inside state) = outcome (state_session state) (Stopped stop inside) (progress_after p state)
+  evaluated_outcome p Unknown = at_once (Stopped Depth None)
 
   abbrev pub core_outcome : Core → Progress → Option Fault → Outcome
-  core_outcome f p (Some fault) = outcome (with_symbols p) (Refused (Thread fault)) p.calls
+  core_outcome f p (Some fault) = outcome (with_symbols p) (Refused (Thread fault)) p
   core_outcome f p None =
-      evaluated_outcome p.calls (checked s.standing.world s.standing.packages k.steps k.depth f (live s.objects) (begun p.symbols s.objects p.calls))
+      evaluated_outcome p (checked s.standing.world s.standing.packages k.steps k.depth f (live s.objects) (begun p.symbols s.objects p.calls))
 
   abbrev pub expanded_outcome : Expanded Core → Outcome
   expanded_outcome (Makes f p) = core_outcome f p (expression_fault s.standing.world (live_scope s.objects) f)
-  expanded_outcome (Fails fault p) = outcome (with_symbols p) (Refused (Expand fault)) p.calls
+  expanded_outcome (Fails fault p) = outcome (with_symbols p) (Refused (Expand fault)) p
 
   -- ---- `:SHOW` and `:CELLS`
 

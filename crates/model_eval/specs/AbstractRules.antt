@@ -1,12 +1,12 @@
 -- Abstract evaluation: as checked evaluation, but an abstract object is its abstract list, an export gives the values of its
 -- logic function, nothing inside an export is counted, and symbols are named and have no limit. And when lists correspond.
-use Rattle.std.specs.Prelude.{◌≡◌, ℕ, List, [], ◌∷◌, map, true, false, Option, Some, None, ℤ, nat_le, if◌then◌else◌}
+use Rattle.std.specs.Prelude.{◌≡◌, ℕ, List, [], ◌∷◌, map, true, false, Option, Some, None, ℤ, pos, negsuc, nat_le, if◌then◌else◌}
 use Rattle.std.specs.Option.{option_map}
-use Rattle.model_objects.specs.Object.{Integer, Symbol, weight, max_weight}
+use Rattle.model_objects.specs.Object.{Integer, Symbol, Text, Pair, weight, max_weight}
 use Rattle.model_symbols.specs.Symbols.{QualifiedName, Package, symbol_in, form_of}
 use Rattle.model_symbols.specs.Opening.{truth_name}
 use Rattle.model_prims.specs.Kinds.{by_name, is_nil}
-use Rattle.model_prims.specs.Numbers.{in_range, power_in_range, shift_in_range}
+use Rattle.model_prims.specs.Numbers.{shifted, in_range, power_in_range, shift_in_range}
 use Rattle.model_prims.specs.Lists.{updated}
 use Rattle.model_prims.specs.Guards.{guard}
 use Rattle.model_prims.specs.Values.{Wanted, Old, Number, Made, Power, Shift, Update, Interned, wanted}
@@ -35,13 +35,25 @@ module _ (packages : List Package) (f : ℕ) (state : State QualifiedName) where
   abbrev pub gives_weighed : Thing → Ended QualifiedName
   gives_weighed o = if nat_le (weight o) max_weight then gives_value o else Stops (Large f) None state
 
+  -- an argument or a part of one, which a logic function may have made too wide or too heavy
+  abbrev pub gives_old : Thing → Ended QualifiedName
+  gives_old (Integer n) = gives_number (in_range n)
+  gives_old (Symbol s) = gives_value (Symbol s)
+  gives_old (Text bytes) = gives_weighed (Text bytes)
+  gives_old (Pair a d) = gives_weighed (Pair a d)
+
+  -- an integer of any width shifted
+  abbrev pub gives_shifted : ℤ → ℤ → Ended QualifiedName
+  gives_shifted i (pos c) = gives_number (shift_in_range i (pos c))
+  gives_shifted i (negsuc c) = gives_number (in_range (shifted i (negsuc c)))
+
   -- the value of a primitive with the bounds of a value
   unfoldable pub bounded_value : Wanted QualifiedName → Ended QualifiedName
-  bounded_value (Old o) = gives_value o
+  bounded_value (Old o) = gives_old o
   bounded_value (Number n) = gives_number (in_range n)
   bounded_value (Made o) = gives_weighed o
   bounded_value (Power b n) = gives_number (power_in_range b n)
-  bounded_value (Shift i c) = gives_number (shift_in_range i c)
+  bounded_value (Shift i c) = gives_shifted i c
   bounded_value (Update n o l) = if nat_le n max_weight then gives_weighed (updated by_name n o l) else Stops (Large f) None state
   bounded_value (Interned name s) = gives_value (Symbol (symbol_in (package_called packages s.home) name))
 

@@ -1,10 +1,10 @@
 -- Abstract evaluation counts: its outcomes are those of rules that know every list and value.
 use Rattle.std.proofs.Common.{ℕ, ◌≤◌, List, [], Option, Some, None, refl, subst}
-use Rattle.std.specs.Prelude.{nat_le, ℤ, unwrap_or}
-use Rattle.model_objects.specs.Object.{weight, max_weight}
+use Rattle.std.specs.Prelude.{nat_le, ℤ, pos, negsuc, unwrap_or}
+use Rattle.model_objects.specs.Object.{Integer, Symbol, Text, Pair, weight, max_weight}
 use Rattle.model_symbols.specs.Symbols.{QualifiedName, Package}
 use Rattle.model_prims.specs.Kinds.{by_name}
-use Rattle.model_prims.specs.Numbers.{in_range, power_in_range, shift_in_range}
+use Rattle.model_prims.specs.Numbers.{shifted, in_range, power_in_range, shift_in_range}
 use Rattle.model_prims.specs.Lists.{updated}
 use Rattle.model_prims.specs.Values.{Wanted, Old, Number, Made, Power, Shift, Update, Interned, wanted}
 use Rattle.model_prims.specs.Guards.{guard}
@@ -17,7 +17,7 @@ use Rattle.model_eval.specs.Outcomes.{Shown, Guard, State, Ended, Gives, Stops, 
 use Rattle.model_eval.specs.Scopes.{Variables, ordinary}
 use Rattle.model_eval.specs.Evaluated.{Rules, evaluated}
 use Rattle.model_eval.specs.Logic.{Book, Thing}
-use Rattle.model_eval.specs.AbstractRules.{gives_number, gives_weighed, bounded_value, abstract_applied, abstract_primitive, abstract_export, abstract_rules, abstractly}
+use Rattle.model_eval.specs.AbstractRules.{gives_number, gives_weighed, gives_old, gives_shifted, bounded_value, abstract_applied, abstract_primitive, abstract_export, abstract_rules, abstractly}
 use Rattle.model_eval_laws.specs.Budgets.{HasOutcome}
 use Rattle.model_eval_laws.specs.Counting.{Counts, HasObjects, AbstractCountsCalls}
 use Rattle.model_eval_laws.proofs.Counts.{grown_same, grown_objects, counts_if, RulesCount, counts_evaluated, stays_evaluated}
@@ -33,13 +33,23 @@ module _ (limit f : ℕ) (state : State QualifiedName) where
   counts_weighed : (packages : List Package) (o : Thing) → Counts limit state (gives_weighed packages f state o)
   counts_weighed packages o = counts_if limit state (nat_le (weight o) max_weight) _ _ (grown_same limit state) (grown_same limit state, λ q. absurd q)
 
+  counts_old : (packages : List Package) (o : Thing) → Counts limit state (gives_old packages f state o)
+  counts_old packages (Integer n) = counts_number packages (in_range n)
+  counts_old packages (Symbol s) = grown_same limit state
+  counts_old packages (Text bytes) = counts_weighed packages (Text bytes)
+  counts_old packages (Pair a d) = counts_weighed packages (Pair a d)
+
+  counts_shifted : (packages : List Package) (i c : ℤ) → Counts limit state (gives_shifted packages f state i c)
+  counts_shifted packages i (pos c) = counts_number packages (shift_in_range i (pos c))
+  counts_shifted packages i (negsuc c) = counts_number packages (in_range (shifted i (negsuc c)))
+
   counts_bounded : (packages : List Package) (w : Wanted QualifiedName) → Counts limit state (bounded_value packages f state w)
   unfolding bounded_value
-  counts_bounded packages (Old o) = grown_same limit state
+  counts_bounded packages (Old o) = counts_old packages o
   counts_bounded packages (Number n) = counts_number packages (in_range n)
   counts_bounded packages (Made o) = counts_weighed packages o
   counts_bounded packages (Power b n) = counts_number packages (power_in_range b n)
-  counts_bounded packages (Shift i c) = counts_number packages (shift_in_range i c)
+  counts_bounded packages (Shift i c) = counts_shifted packages i c
   counts_bounded packages (Update n o l) =
       counts_if limit state (nat_le n max_weight) _ _ (counts_weighed packages (updated by_name n o l)) (grown_same limit state, λ q. absurd q)
   counts_bounded packages (Interned name s) = grown_same limit state

@@ -12,7 +12,7 @@ use Rattle.model_eval.specs.Evaluated.{exec_called, called, in_order, all_borrow
 use Rattle.model_eval_rows.specs.Books.{AreRight}
 use Rattle.model_eval_rows.specs.Counting.{counting_rows}
 use Rattle.model_eval.specs.AbstractRules.{bounded_value}
-use Rattle.model_eval_rows.specs.Abstractly.{AbstractlyRight, Corresponds}
+use Rattle.model_eval_rows.specs.Abstractly.{AbstractlyRight, BoundsAreKept, Corresponds}
 use Rattle.model_eval_rows.specs.Abstractly as abstractly
 use Rattle.model_eval.specs.LogicFunctions.{logic_access, logic_update, logic_effect}
 use Rattle.model_eval.specs.Logic.{form_value, form_values, call_within}
@@ -70,6 +70,10 @@ odd_lists = record { all = refl }
 pub abstract_values : AbstractlyRight abstractly.abstract_rows
 unfolding abstractly.abstract_rows guard recognizer_guard relation_guard arithmetic_guard listing_guard naming_guard wanted recognized related computed listed named_by accessed changed lengthened layout_within effect exec_called called in_order all_borrowed put_back evaluated logic_access logic_update logic_effect form_value form_values call_within bounded_value
 abstract_values = record { all = refl }
+
+pub bounds : BoundsAreKept
+unfolding bounded_value
+bounds = record { shifted = refl; argument = refl }
 
 pub corresponding : Corresponds
 unfolding guard recognizer_guard relation_guard arithmetic_guard listing_guard naming_guard wanted recognized related computed listed named_by accessed changed lengthened layout_within effect exec_called called in_order all_borrowed put_back evaluated logic_access logic_update logic_effect form_value form_values call_within bounded_value

@@ -1,7 +1,7 @@
 -- Abstract evaluation of an object that is its foundation: (defstobj st$c (val$c :type integer :initially 0)), st$ap of x is
 -- (and (true-listp x) (equal (len x) 1) (integerp (car x))), create-st$a is (list 0), val$a is (car x), update-val$a is
 -- (update-nth 0 v x) and st$corr is (equal st$c x).
-use Rattle.std.specs.Prelude.{◌≡◌, ℕ, List, [], ◌∷◌, ◌++◌, map, None, pos}
+use Rattle.std.specs.Prelude.{◌≡◌, ℕ, ◌^◌, List, [], ◌∷◌, ◌++◌, map, None, pos, negsuc}
 use Rattle.model_objects.specs.Object.{Integer, Symbol, list_onto}
 use Rattle.model_symbols.specs.Symbols.{QualifiedName}
 use Rattle.model_symbols.specs.Opening.{truth_name, nil_name}
@@ -9,6 +9,7 @@ use Rattle.model_prims.specs.declared.prim.Prim.TheVariants.{Recognizer, Relatio
 use Rattle.model_prims.specs.declared.prim.Recognizer.TheVariants as recognizer
 use Rattle.model_prims.specs.declared.prim.Relation.TheVariants as relation
 use Rattle.model_prims.specs.declared.prim.Listing.TheVariants as listing
+use Rattle.model_prims.specs.Values.{Old, Shift}
 use Rattle.model_lists.specs.Lists.{ObjectList, Value}
 use Rattle.model_terms.specs.Cores.{Core, Var, Mv, WithLocal, cores}
 use Rattle.model_terms.specs.Worlds.{World, Definition, Ordinary, Abstract, OfAbstract}
@@ -16,10 +17,10 @@ use Rattle.model_terms.specs.Worlds as worlds
 use Rattle.model_terms.specs.declared.role.Role.TheVariants as role
 use Rattle.model_terms.specs.declared.role.AbstractRole.{AbstractRole}
 use Rattle.model_terms.specs.declared.role.AbstractRole.TheVariants as abstract_role
-use Rattle.model_eval.specs.Outcomes.{Plain, Stobj, Guard, State, Ended, Gives, Stops, Unknown}
+use Rattle.model_eval.specs.Outcomes.{Plain, Stobj, Guard, Range, State, Ended, Gives, Stops, Unknown}
 use Rattle.model_eval.specs.Checked.{live}
 use Rattle.model_eval.specs.Logic.{Book, Thing}
-use Rattle.model_eval.specs.AbstractRules.{abstractly, Correspond}
+use Rattle.model_eval.specs.AbstractRules.{bounded_value, abstractly, Correspond}
 use Rattle.model_eval_rows.specs.Books.{int, quoted, call, both_hold, always, primitives, primitive, function, generated, object, integer_field, integerp_word, car_word, cons_word}
 use Rattle.model_eval_rows.specs.Books as books
 
@@ -178,6 +179,11 @@ abstract_rows =
     (WithLocal st (x ∷ st ∷ []) (Mv (cores (call val (Var st ∷ []) ∷ Var st ∷ []))) (Var x))
     (Gives (Plain (number 0) ∷ []) (state 5 3))
     ∷ []
+
+-- what a logic function made too wide is shifted as it is, and is no result itself
+pub record BoundsAreKept : Type 0 where
+  pub shifted : bounded_value [] x (state 0 0) (Shift (pos (2 ^ 200)) (negsuc 129)) ≡ Gives (Plain (number (2 ^ 70)) ∷ []) (state 0 0)
+  pub argument : bounded_value [] x (state 0 0) (Old (number (2 ^ 200))) ≡ Stops (Range x) None (state 0 0)
 
 -- the foundation's list (7) corresponds to the abstract list (7)
 pub record Corresponds : Type 0 where

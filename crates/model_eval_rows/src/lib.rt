@@ -3,7 +3,7 @@
 
 ghost use Rattle.model_eval_rows.specs.Books.{AreRight};
 ghost use Rattle.model_eval_rows.specs.Counting.{counting_rows};
-ghost use Rattle.model_eval_rows.specs.Abstractly.{AbstractlyRight, Corresponds};
+ghost use Rattle.model_eval_rows.specs.Abstractly.{AbstractlyRight, BoundsAreKept, Corresponds};
 ghost use Rattle.model_eval_rows.specs.Abstractly as abstractly;
 ghost use Rattle.model_eval_rows.specs.Logic.{LogicIsRight, logic_rows, odd_rows};
 ghost use Rattle.model_eval_rows.specs.StackMachine.{machine_rows};
@@ -79,6 +79,12 @@ pub fn odd_lists()
 #[tactic(auto, using(crate::proofs::Computed::abstract_values))]
 pub fn abstract_values()
     ensures { AbstractlyRight abstractly.abstract_rows }
+{}
+
+/// What a logic function made too wide is shifted as it is, and is no result itself.
+#[tactic(auto, using(crate::proofs::Computed::bounds))]
+pub fn bounds_are_kept()
+    ensures { BoundsAreKept }
 {}
 
 /// A foundation's list and an abstract list that correspond.

@@ -15,19 +15,16 @@ use Rattle.model_eval.specs.Checked.{checked, begun}
 use Rattle.model_expansion.specs.Words.{defconst_word, defpkg_word, in_package_word}
 use Rattle.model_expansion.specs.Forms.{elements, each_of, symbol, text, has_stars}
 use Rattle.model_expansion.specs.Faults.{Refusal, BadShape, Expand, BadName, Thread, UnknownPackage, PackageExists, ImportClash}
-use Rattle.model_expansion.specs.Expansion.{Setting, Progress, expanded}
+use Rattle.model_expansion.specs.Expansion.{Setting, Progress, progress_after, expanded}
 use Rattle.model_stobjs.specs.Answers.{Answer, Grants, Refuses, Halts, unless, needing, expanding}
 use Rattle.model_stobjs.specs.Heads.{name_in_use}
 
 -- ---- values
 
-abbrev pub state_progress : State ℕ → Progress
-state_progress state = record { calls = state.calls; symbols = state.symbols }
-
 -- the only value of an evaluation, where it ends with one
 abbrev pub valued : {A : Type 0} → Ended ℕ → (Object ℕ → Progress → Answer A) → Progress → Answer A
-valued (Gives values state) go p = go (object_of by_number (single by_number values)) (state_progress state)
-valued (Stops stop inside state) go p = Halts stop inside (state_progress state)
+valued (Gives values state) go p = go (object_of by_number (single by_number values)) (progress_after p state)
+valued (Stops stop inside state) go p = Halts stop inside (progress_after p state)
 valued Unknown go p = Halts Depth None p
 
 -- a form without variables, evaluated; the rules for constants come first

@@ -32,8 +32,14 @@ pub record Setting : Type 0 where
 
 -- what is threaded through an expansion
 pub record Progress : Type 0 where
+  -- the calls counted so far, and those of them that no export made
   pub calls : ℕ
+  pub outer : ℕ
   pub symbols : List QualifiedName
+
+-- after an evaluation that began there
+abbrev pub progress_after : Progress → State ℕ → Progress
+progress_after p state = record { calls = state.calls; outer = p.outer + state.outer; symbols = state.symbols }
 
 pub data Expanded (A : Type 0) : Type 0 where
   Makes : A → Progress → Expanded A
@@ -46,7 +52,7 @@ then_make (Fails f p) go = Fails f p
 
 -- a use that is counted, and then the rest; no use passes the limit
 abbrev pub counting : {A : Type 0} → ℕ → (Progress → Expanded A) → Progress → Expanded A
-counting steps go p = if nat_lt p.calls steps then go (record p { calls = p.calls + 1 }) else Fails (MacroStopped Steps None) p
+counting steps go p = if nat_lt p.calls steps then go (record p { calls = p.calls + 1; outer = p.outer + 1 }) else Fails (MacroStopped Steps None) p
 
 -- ---- nodes
 
@@ -163,10 +169,10 @@ abbrev pub out_of_steps : Settle
 out_of_steps o p = Fails (MacroStopped Steps None) p
 
 -- what an expansion is of the outcome of a macro's body: its value is expanded again
-abbrev pub again : Ended ℕ → Expanded Made
-again (Gives values state) = Makes (Again (object_of by_number (single by_number values))) (record { calls = state.calls; symbols = state.symbols })
-again (Stops stop inside state) = Fails (MacroStopped stop inside) (record { calls = state.calls; symbols = state.symbols })
-again Unknown = Fails TooNested (record { calls = 0; symbols = [] })
+abbrev pub again : Progress → Ended ℕ → Expanded Made
+again p (Gives values state) = Makes (Again (object_of by_number (single by_number values))) (progress_after p state)
+again p (Stops stop inside state) = Fails (MacroStopped stop inside) (progress_after p state)
+again p Unknown = Fails TooNested p
 
 -- a core form of a shape, or of none
 abbrev pub core_look : ℕ → Option Made → Look
@@ -247,7 +253,7 @@ module _ (x : Setting) where
   used s formals body (Some os) p = of_actuals (macro_values p.symbols formals os) where
     of_actuals : Option (List (Object ℕ)) → Expanded Made
     of_actuals None = Fails (MacroArgs s) p
-    of_actuals (Some values) = again (body_value formals body values p)
+    of_actuals (Some values) = again p (body_value formals body values p)
 
   abbrev pub looked : Look → Progress → Expanded Made
   looked (Stands f) p = Makes (Stays f) p

@@ -8,28 +8,40 @@ use Rattle.model_objects.specs.Object.{Object, Integer, Symbol, Text, Pair}
 use Rattle.model_symbols.specs.Symbols.{QualifiedName}
 use Rattle.model_terms.specs.Cores.{Core, Cores, Var, Const, If, Let, Mv, MvLet, StobjLet, WithLocal, MustBeEqual, Call, none, more, count}
 use Rattle.model_terms.specs.Worlds.{MacroFormals, Definition, Macro, definition}
-use Rattle.model_eval.specs.Outcomes.{Steps, Ended, Gives, Stops, Unknown}
+use Rattle.model_eval.specs.Outcomes.{Steps, State, Ended, Gives, Stops, Unknown}
 use Rattle.model_eval.specs.Checked.{begun}
-use Rattle.model_eval_laws.specs.Counting.{Counts}
+use Rattle.model_eval_laws.specs.Counting.{Grown, Counts}
 use Rattle.model_eval_laws.proofs.Counts.{longer_then, not_less}
 use Rattle.model_eval_laws.proofs.CountLemmas.{counts_calls}
 use Rattle.model_expansion.specs.Forms.{elements}
 use Rattle.model_expansion.specs.Faults.{ExpandFault, MacroArgs, BadShape, MacroStopped, Arity}
 use Rattle.model_expansion.specs.Layers.{Row, core_row, macro_row, CallNode, GuardItem, Holds, Meets, Part, Form, Ready, Rest, Guard, Found, Leaf, Node, Made, Again, Stays, made_of}
-use Rattle.model_expansion.specs.Expansion.{deepest_core, Setting, Progress, Expanded, Makes, Fails, then_make, counting, macro_values, Look, Stands, Bad, Use, UserUse, Settle, settles, out_of_steps, again, core_look, call_look, arity_of, function_look, defined_look, macro_look, headed_look, list_look, look_at, built, body_value, used, looked, settled, settle, row_found, head_fault, if_room, ready_fault, ready_faults, ready_found, ready, guard_found, part_found, Grow, grown_all, grown_found, grown}
+use Rattle.model_expansion.specs.Expansion.{deepest_core, Setting, Progress, progress_after, Expanded, Makes, Fails, then_make, counting, macro_values, Look, Stands, Bad, Use, UserUse, Settle, settles, out_of_steps, again, core_look, call_look, arity_of, function_look, defined_look, macro_look, headed_look, list_look, look_at, built, body_value, used, looked, settled, settle, row_found, head_fault, if_room, ready_fault, ready_faults, ready_found, ready, guard_found, part_found, Grow, grown_all, grown_found, grown}
 use Rattle.model_expansion_laws.specs.Counting.{Advanced, IsOutOfSteps, Advances, ExpansionCounts}
 
 module _ (limit : ℕ) where
   -- ---- progress
 
   pub advanced_same : (p : Progress) → Advanced limit p p
-  advanced_same p = record { calls = omega arith; within = λ h. h; symbols = ([], sym (append-nil p.symbols)) }
+  advanced_same p = record { calls = omega arith; within = λ h. h; outer = omega arith; outer_calls = omega arith; symbols = ([], sym (append-nil p.symbols)) }
 
   pub advanced_then : (a b c : Progress) → Advanced limit a b → Advanced limit b c → Advanced limit a c
   advanced_then a b c g h = record {
     calls = omega (arith, g.calls, h.calls);
     within = λ q. h.within (g.within q);
+    outer = omega (arith, g.outer, h.outer);
+    outer_calls = omega (arith, g.outer_calls, h.outer_calls);
     symbols = longer_then a.symbols b.symbols c.symbols g.symbols h.symbols;
+  }
+
+  -- after an evaluation
+  pub advanced_state : (p : Progress) (state : State ℕ) → Grown limit (begun p.symbols [] p.calls) state → Advanced limit p (progress_after p state)
+  advanced_state p state g = record {
+    calls = g.calls;
+    within = g.within;
+    outer = omega arith;
+    outer_calls = omega (arith, g.outer_calls);
+    symbols = g.symbols;
   }
 
   -- ---- expansions
@@ -50,10 +62,19 @@ module _ (limit : ℕ) where
   Looks old (Makes (Stays f) new) = Advanced limit old new
   Looks old (Fails fault new) = Advanced limit old new × (IsOutOfSteps fault → limit ≤ new.calls)
 
-  advanced_use : (a b : Progress) → a.calls < limit → Advanced limit (record a { calls = a.calls + 1 }) b → Advanced limit a b
-  advanced_use a b l g = record { calls = omega (arith, g.calls); within = λ q. g.within (omega arith); symbols = g.symbols }
+  abbrev one_use : Progress → Progress
+  one_use p = record p { calls = p.calls + 1; outer = p.outer + 1 }
 
-  looks_use : (a : Progress) (r : Expanded Made) → a.calls < limit → Advances limit (record a { calls = a.calls + 1 }) r → Looks a r
+  advanced_use : (a b : Progress) → a.calls < limit → Advanced limit (one_use a) b → Advanced limit a b
+  advanced_use a b l g = record {
+    calls = omega (arith, g.calls);
+    within = λ q. g.within (omega arith);
+    outer = omega (arith, g.outer);
+    outer_calls = omega (arith, g.outer_calls);
+    symbols = g.symbols;
+  }
+
+  looks_use : (a : Progress) (r : Expanded Made) → a.calls < limit → Advances limit (one_use a) r → Looks a r
   looks_use a (Makes (Again o) p) l h = (advanced_use a p l h, omega (arith, h.calls))
   looks_use a (Makes (Stays f) p) l h = advanced_use a p l h
   looks_use a (Fails fault p) l h = (advanced_use a p l h.0, h.1)
@@ -61,8 +82,8 @@ module _ (limit : ℕ) where
   looks_counting : (a : Progress) (go : Progress → Expanded Made) → ((p : Progress) → Advances limit p (go p)) → Looks a (counting limit go a)
   looks_counting a go h = by_test (nat_lt a.calls limit) refl
     where
-      by_test : (b : Bool) → nat_lt a.calls limit ≡ b → Looks a (if b then go (record a { calls = a.calls + 1 }) else Fails (MacroStopped Steps None) a)
-      by_test true e = looks_use a (go (record a { calls = a.calls + 1 })) (ltb-true a.calls limit e) (h (record a { calls = a.calls + 1 }))
+      by_test : (b : Bool) → nat_lt a.calls limit ≡ b → Looks a (if b then go (one_use a) else Fails (MacroStopped Steps None) a)
+      by_test true e = looks_use a (go (one_use a)) (ltb-true a.calls limit e) (h (one_use a))
       by_test false e = (advanced_same a, λ q. not_less a.calls limit e)
 
   looks_settles : (a : Progress) (r : Expanded Made) (go : Settle) → Looks a r → ((o : Object ℕ) (p : Progress) → a.calls < p.calls → Advances limit p (go o p)) → Advances limit a (then_make r (settles go))
@@ -70,9 +91,9 @@ module _ (limit : ℕ) where
   looks_settles a (Makes (Stays f) p) go h k = h
   looks_settles a (Fails fault p) go h k = h
 
-  advances_again : (p : Progress) (r : Ended ℕ) → Counts limit (begun p.symbols [] p.calls) r → Advances limit p (again r)
-  advances_again p (Gives values state) h = record { calls = h.calls; within = h.within; symbols = h.symbols }
-  advances_again p (Stops stop inside state) h = (record { calls = h.0.calls; within = h.0.within; symbols = h.0.symbols }, h.1)
+  advances_again : (p : Progress) (r : Ended ℕ) → Counts limit (begun p.symbols [] p.calls) r → Advances limit p (again p r)
+  advances_again p (Gives values state) h = advanced_state p state h
+  advances_again p (Stops stop inside state) h = (advanced_state p state h.0, h.1)
   advances_again p Unknown h = absurd h
 
 -- ---- faults that are none of steps
@@ -182,7 +203,7 @@ module _ (x : Setting) where
 
   abbrev pub with_values : ℕ → MacroFormals → Core → Progress → Option (List (Object ℕ)) → Expanded Made
   with_values s formals body p None = Fails (MacroArgs s) p
-  with_values s formals body p (Some values) = again (body_value x formals body values p)
+  with_values s formals body p (Some values) = again p (body_value x formals body values p)
 
   advances_values : (s : ℕ) (formals : MacroFormals) (body : Core) (p : Progress) (values : Option (List (Object ℕ))) → Advances x.steps p (with_values s formals body p values)
   advances_values s formals body p None = (advanced_same x.steps p, λ q. absurd q)

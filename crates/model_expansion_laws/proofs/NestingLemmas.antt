@@ -69,10 +69,10 @@ abbrev IsLowPlace : Expanded Found → Type 0
 IsLowPlace (Makes f p) = IsLow f
 IsLowPlace (Fails fault p) = Unit {0}
 
-low_again : (r : Ended ℕ) → IsLowOutcome (again r)
-low_again (Gives values state) = tt
-low_again (Stops stop inside state) = tt
-low_again Unknown = tt
+low_again : (p : Progress) (r : Ended ℕ) → IsLowOutcome (again p r)
+low_again p (Gives values state) = tt
+low_again p (Stops stop inside state) = tt
+low_again p Unknown = tt
 
 low_settles : (r : Expanded Made) (go : Settle) → IsLowOutcome r → ((o : Object ℕ) (p : Progress) → IsLowPlace (go o p)) → IsLowPlace (then_make r (settles go))
 low_settles (Makes (Again o) p) go h k = k o p
@@ -82,8 +82,8 @@ low_settles (Fails fault p) go h k = tt
 low_counting : (steps : ℕ) (go : Progress → Expanded Made) (p : Progress) → ((q : Progress) → IsLowOutcome (go q)) → IsLowOutcome (counting steps go p)
 low_counting steps go p h = by_test (nat_lt p.calls steps)
   where
-    by_test : (b : Bool) → IsLowOutcome (if b then go (record p { calls = p.calls + 1 }) else Fails (MacroStopped Steps None) p)
-    by_test true = h (record p { calls = p.calls + 1 })
+    by_test : (b : Bool) → IsLowOutcome (if b then go (record p { calls = p.calls + 1; outer = p.outer + 1 }) else Fails (MacroStopped Steps None) p)
+    by_test true = h (record p { calls = p.calls + 1; outer = p.outer + 1 })
     by_test false = tt
 
 module _ (x : Setting) where
@@ -154,7 +154,7 @@ module _ (x : Setting) where
 
   low_values : (s : ℕ) (formals : MacroFormals) (body : Core) (p : Progress) (values : Option (List (Object ℕ))) → IsLowOutcome (with_values x s formals body p values)
   low_values s formals body p None = tt
-  low_values s formals body p (Some values) = low_again (body_value x formals body values p)
+  low_values s formals body p (Some values) = low_again p (body_value x formals body values p)
 
   low_used : (s : ℕ) (formals : MacroFormals) (body : Core) (os : Option (List (Object ℕ))) (p : Progress) → IsLowOutcome (used x s formals body os p)
   low_used s formals body None p = tt

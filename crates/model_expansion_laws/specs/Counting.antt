@@ -1,5 +1,5 @@
 -- What an expansion counts, and how deep the core forms are that it makes.
-use Rattle.std.specs.Prelude.{◌≡◌, ℕ, ◌≤◌, List, ◌++◌}
+use Rattle.std.specs.Prelude.{◌≡◌, ℕ, ◌+◌, ◌≤◌, List, ◌++◌}
 use Rattle.model_objects.specs.Object.{Object}
 use Rattle.model_symbols.specs.Symbols.{QualifiedName}
 use Rattle.model_terms.specs.Cores.{Core}
@@ -9,10 +9,12 @@ use Rattle.model_expansion.specs.Layers.{GuardItem}
 use Rattle.model_expansion.specs.TypeTerms.{depth_of}
 use Rattle.model_expansion.specs.Expansion.{deepest_core, Setting, Progress, Expanded, Makes, Fails, expanded, expanded_guard}
 
--- a later progress: calls never fall and do not pass the limit, and symbols are only added
+-- a later progress: calls never fall and do not pass the limit, outer calls are calls, and symbols are only added
 pub record Advanced (limit : ℕ) (old new : Progress) : Type 0 where
   pub calls : old.calls ≤ new.calls
   pub within : old.calls ≤ limit → new.calls ≤ limit
+  pub outer : old.outer ≤ new.outer
+  pub outer_calls : new.outer + old.calls ≤ new.calls + old.outer
   pub symbols : (added : List QualifiedName) × (new.symbols ≡ old.symbols ++ added)
 
 -- a fault that says that the limit of calls was met
