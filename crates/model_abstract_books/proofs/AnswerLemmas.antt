@@ -31,7 +31,7 @@ use Rattle.model_books.specs.Opening.{Session}
 use Rattle.model_books.specs.Commands.{Event, Show, at_start, live_scope, command}
 use Rattle.model_abstract_books.specs.Commands.{Lists, AbstractOutcome, book_of, with_value, at_once, created_outcome, event_outcome, evaluated_outcome, begun, evaluated_on, outcome, unless_refused, constant_ended, constant_made, constant_outcome, names_in, package_refusal, package_answer, package_outcome, event_way, core_outcome, expanded_outcome, shown_object, live_list, ways, abstract_command}
 use Rattle.model_abstract_books.specs.Laws.{KeepsLists, AnswersKeepLists, AnswersCountWithin}
-use Rattle.model_abstract_books.proofs.WayLemmas.{ShowHolds, AllWays, way_holds}
+use Rattle.model_book_laws.proofs.WayLemmas.{ShowHolds, AllWays, way_holds}
 
 -- ---- lists
 

@@ -1,7 +1,6 @@
 pub mod RowDoubled
 pub mod RowStopping
 pub mod BudgetLemmas
-pub mod WayLemmas
 pub mod AnswerLemmas
 pub mod RowHolding
 pub mod IdentitySession

@@ -1,6 +1,7 @@
 pub mod Computed
 pub mod AnswerLemmas
 pub mod EventLemmas
+pub mod WayLemmas
 pub mod CommandLemmas
 pub mod NestingLemmas
 pub mod GuardsComputed
