@@ -60,11 +60,13 @@ impl Sink for MemSink {
         ensures some { IfOk result (λ n. 0 < length piece.now → 0 < n) }
         ensures takes { IfOk result (λ n. Takes (Some (written_to self.old)) (Some (written_to self.new)) (take n piece.now)) }
         ensures fault { OnErr result (HasRisen (sink_faults self.old) (sink_faults self.new)) }
+        ensures quiet { IfOk result (λ _. sink_faults self.new ≡ sink_faults self.old) }
         ensures err { OnErr result (Some (written_to self.new) ≡ Some (written_to self.old)) }
         ensures counts { sink_faults self.old ≤ sink_faults self.new }
 
         ensures fails { is_err result ≡ refuses self.old (length piece.now) }
         ensures most { IfOk result (λ n. n ≡ min (room_left self.old) (length piece.now)) }
+        ensures failed { OnErr result (sink_faults self.new ≡ next_call (sink_faults self.old)) }
         ensures call { sink_calls self.new ≡ next_call (sink_calls self.old) }
         ensures settings { (sink_room self.new ≡ sink_room self.old) × (sink_fail self.new ≡ sink_fail self.old) }
     {

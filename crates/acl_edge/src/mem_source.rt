@@ -53,11 +53,13 @@ impl Source for MemSource {
         ensures gives { IfOk result (λ n. Gives (Some (rest_of self.old)) (Some (rest_of self.new)) (take n buf.new)) }
         ensures end { IfOk result (λ n. n ≡ 0 → 0 < length buf.new → IsSpent (Some (rest_of self.old))) }
         ensures fault { OnErr result (HasRisen (source_faults self.old) (source_faults self.new)) }
+        ensures quiet { IfOk result (λ _. source_faults self.new ≡ source_faults self.old) }
         ensures err { OnErr result (Some (rest_of self.new) ≡ Some (rest_of self.old)) }
         ensures counts { source_faults self.old ≤ source_faults self.new }
 
         ensures fails { is_err result ≡ is_among (source_fail self.old) (next_call (source_calls self.old)) }
         ensures most { IfOk result (λ n. n ≡ min (source_piece self.old) (min (length buf.old) (length (rest_of self.old)))) }
+        ensures failed { OnErr result (source_faults self.new ≡ next_call (source_faults self.old)) }
         ensures call { source_calls self.new ≡ next_call (source_calls self.old) }
         ensures settings { (source_piece self.new ≡ source_piece self.old) × (source_fail self.new ≡ source_fail self.old) }
     {

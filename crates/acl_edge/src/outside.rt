@@ -22,6 +22,7 @@ pub trait Source {
         ensures gives { IfOk result (λ n. Gives (left self.old) (left self.new) (take n buf.new)) }
         ensures end { IfOk result (λ n. n ≡ 0 → 0 < length buf.new → IsSpent (left self.old)) }
         ensures fault { OnErr result (HasRisen (faults self.old) (faults self.new)) }
+        ensures quiet { IfOk result (λ _. faults self.new ≡ faults self.old) }
         ensures err { OnErr result (left self.new ≡ left self.old) }
         ensures counts { faults self.old ≤ faults self.new };
 }
@@ -40,6 +41,7 @@ pub trait Sink {
         ensures some { IfOk result (λ n. 0 < length piece.now → 0 < n) }
         ensures takes { IfOk result (λ n. Takes (written self.old) (written self.new) (take n piece.now)) }
         ensures fault { OnErr result (HasRisen (faults self.old) (faults self.new)) }
+        ensures quiet { IfOk result (λ _. faults self.new ≡ faults self.old) }
         ensures err { OnErr result (written self.new ≡ written self.old) }
         ensures counts { faults self.old ≤ faults self.new };
 }

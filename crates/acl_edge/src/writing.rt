@@ -13,6 +13,7 @@ pub fn write_all<K: Sink>(sink: &mut K, bytes: &[u8]) -> Result<(), Failed>
     ensures ok { OnOk result (Takes (K.written sink.old) (K.written sink.new) bytes.now) }
     ensures part { OnErr result (TakesPart (K.written sink.old) (K.written sink.new) bytes.now) }
     ensures fault { OnErr result (HasRisen (K.faults sink.old) (K.faults sink.new)) }
+    ensures quiet { OnOk result (K.faults sink.new ≡ K.faults sink.old) }
     ensures counts { K.faults sink.old ≤ K.faults sink.new }
 {
     let mut at = 0;

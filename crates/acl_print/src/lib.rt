@@ -153,6 +153,7 @@ pub fn print_to<K: Sink>(
     ensures ok { OnOk result (Takes (K.written sink.old) (K.written sink.new) (printed syms.now current.0 heap.now w)) }
     ensures part { OnErr result (TakesPart (K.written sink.old) (K.written sink.new) (printed syms.now current.0 heap.now w)) }
     ensures fault { IsErrOf result PrintFault.Write → HasRisen (K.faults sink.old) (K.faults sink.new) }
+    ensures quiet { OnOk result (K.faults sink.new ≡ K.faults sink.old) }
     ensures counts { K.faults sink.old ≤ K.faults sink.new }
 {
     let mut out = Vec::new(alloc);

@@ -15,6 +15,7 @@ pub fn flush<K: Sink>(sink: &mut K, out: &mut Vec<u8>) -> Result<(), Failed>
     ensures none { OnOk result (out.new.items ≡ []) }
     ensures part { OnErr result (TakesPart (K.written sink.old) (K.written sink.new) out.old.items) }
     ensures fault { OnErr result (HasRisen (K.faults sink.old) (K.faults sink.new)) }
+    ensures quiet { OnOk result (K.faults sink.new ≡ K.faults sink.old) }
     ensures counts { K.faults sink.old ≤ K.faults sink.new }
 {
     write_all(sink, out.as_slice())?;
@@ -29,6 +30,7 @@ pub fn flush_full<K: Sink>(sink: &mut K, out: &mut Vec<u8>) -> Result<(), Failed
     ensures ok { OnOk result (Follows (K.written sink.old) (K.written sink.new) out.old.items out.new.items) }
     ensures part { OnErr result (TakesPart (K.written sink.old) (K.written sink.new) out.old.items) }
     ensures fault { OnErr result (HasRisen (K.faults sink.old) (K.faults sink.new)) }
+    ensures quiet { OnOk result (K.faults sink.new ≡ K.faults sink.old) }
     ensures counts { K.faults sink.old ≤ K.faults sink.new }
 {
     if out.len() >= PIECE {

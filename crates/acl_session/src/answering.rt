@@ -55,6 +55,7 @@ pub fn write_line<K: Sink>(sink: &mut K, mut line: Vec<u8>) -> Result<(), Unwrit
     ensures ok { OnOk result (Takes (K.written sink.old) (K.written sink.new) (output.line line.items)) }
     ensures part { OnErr result (TakesPart (K.written sink.old) (K.written sink.new) (output.line line.items)) }
     ensures fault { IsErrOf result Unwritten.Fault → HasRisen (K.faults sink.old) (K.faults sink.new) }
+    ensures quiet { OnOk result (K.faults sink.new ≡ K.faults sink.old) }
     ensures counts { K.faults sink.old ≤ K.faults sink.new }
 {
     line.push(b'\n')?;
@@ -101,6 +102,7 @@ fn end_book<K: Sink>(alloc: Global, totals: &Totals, sink: &mut K) -> Result<Sta
     ensures ok { IfOk result (Finishes (K.written sink.old) (K.written sink.new) (output.ended (totals_view totals.now))) }
     ensures part { OnErr result (TakesPart (K.written sink.old) (K.written sink.new) (output.ended (totals_view totals.now)).bytes) }
     ensures fault { IsErrOf result Unwritten.Fault → HasRisen (K.faults sink.old) (K.faults sink.new) }
+    ensures quiet { IfOk result (λ _. K.faults sink.new ≡ K.faults sink.old) }
     ensures counts { K.faults sink.old ≤ K.faults sink.new }
     ensures plain { IfOk result IsPlain }
 {
@@ -124,6 +126,7 @@ fn end_at_fault<K: Sink>(
     ensures ok { IfOk result (Finishes (K.written sink.old) (K.written sink.new) (output.faulty (totals_view totals.now) name.now offset)) }
     ensures part { OnErr result (TakesPart (K.written sink.old) (K.written sink.new) (output.faulty (totals_view totals.now) name.now offset).bytes) }
     ensures fault { IsErrOf result Unwritten.Fault → HasRisen (K.faults sink.old) (K.faults sink.new) }
+    ensures quiet { IfOk result (λ _. K.faults sink.new ≡ K.faults sink.old) }
     ensures counts { K.faults sink.old ≤ K.faults sink.new }
     ensures plain { IfOk result IsPlain }
 {
@@ -144,6 +147,7 @@ fn end<K: Sink>(
     ensures ok { IfOk result (Finishes (K.written sink.old) (K.written sink.new) (end_output (totals_view totals.now) end)) }
     ensures part { OnErr result (TakesPart (K.written sink.old) (K.written sink.new) (end_output (totals_view totals.now) end).bytes) }
     ensures fault { IsErrOf result Unwritten.Fault → HasRisen (K.faults sink.old) (K.faults sink.new) }
+    ensures quiet { IfOk result (λ _. K.faults sink.new ≡ K.faults sink.old) }
     ensures counts { K.faults sink.old ≤ K.faults sink.new }
     ensures plain { IfOk result IsPlain }
 {
@@ -159,6 +163,7 @@ pub fn answer<K: Sink>(alloc: Global, input: &[u8], sink: &mut K) -> Result<Stat
     ensures ok { IfOk result (Finishes (K.written sink.old) (K.written sink.new) (output.output input.now)) }
     ensures part { OnErr result (TakesPart (K.written sink.old) (K.written sink.new) (output.output input.now).bytes) }
     ensures fault { IsErrOf result Unwritten.Fault → HasRisen (K.faults sink.old) (K.faults sink.new) }
+    ensures quiet { IfOk result (λ _. K.faults sink.new ≡ K.faults sink.old) }
     ensures counts { K.faults sink.old ≤ K.faults sink.new }
     ensures plain { IfOk result IsPlain }
 {

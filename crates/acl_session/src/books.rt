@@ -78,6 +78,7 @@ pub fn run_forms<K: Sink>(
     ensures ok { IfOk result (λ end. Writing (K.written sink.old) (K.written sink.new) (end_output (totals_view totals.new) end) (output.answers (length input.now + 1) sessions.first_session output.no_totals 0 input.now)) }
     ensures part { OnErr result (TakesPart (K.written sink.old) (K.written sink.new) (output.answers (length input.now + 1) sessions.first_session output.no_totals 0 input.now).bytes) }
     ensures fault { IsErrOf result Unwritten.Fault → HasRisen (K.faults sink.old) (K.faults sink.new) }
+    ensures quiet { IfOk result (λ _. K.faults sink.new ≡ K.faults sink.old) }
     ensures counts { K.faults sink.old ≤ K.faults sink.new }
 {
     let mut syms = Symbols::new(alloc)?;

@@ -54,6 +54,7 @@ pub const MOST_BYTES: usize = 1_048_576;
 pub fn read_input<S: Source>(alloc: Global, source: &mut S) -> Result<Vec<u8>, Unread>
     ensures input { IfOk result (λ bytes. IsInput (S.left source.old) bytes.items) }
     ensures fault { IsErrOf result Unread.Fault → HasRisen (S.faults source.old) (S.faults source.new) }
+    ensures quiet { IfOk result (λ _. S.faults source.new ≡ S.faults source.old) }
     ensures counts { S.faults source.old ≤ S.faults source.new }
 {
     let mut piece = vec![in alloc; 0u8; PIECE]?;

@@ -2,7 +2,7 @@
 
 ghost use Rattle.std.specs.Prelude.{◌≡◌, ◌<◌, ◌↔◌, length};
 ghost use Rattle.acl_edge.specs.Outside.{HasRisen};
-ghost use Rattle.acl_session.specs.Runs.{IsRun};
+ghost use Rattle.acl_session.specs.Runs.{IsRun, IsPlain};
 
 use crate::answering::{Unwritten, answer};
 use crate::reading::{Unread, read_input};
@@ -27,6 +27,8 @@ pub fn run<S: Source, K: Sink>(
     ensures untouched { result ≡ Status.Words → (source.new ≡ source.old) × (sink.new ≡ sink.old) }
     ensures read_fault { result ≡ Status.ReadFault → HasRisen (S.faults source.old) (S.faults source.new) }
     ensures write_fault { result ≡ Status.WriteFault → HasRisen (K.faults sink.old) (K.faults sink.new) }
+    // No failed read or write is passed over: where a book ends by itself, none was.
+    ensures heard { IsPlain result → (S.faults source.new ≡ S.faults source.old) × (K.faults sink.new ≡ K.faults sink.old) }
 {
     if !words.is_empty() {
         return Status::Words;

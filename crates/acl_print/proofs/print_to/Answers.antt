@@ -1,5 +1,5 @@
 use Rattle.std.specs.Prelude.{refl, ◌++◌}
-use Rattle.std.proofs.Common.{arith, rules}
+use Rattle.std.proofs.Common.{arith, rules, ◌∙◌}
 use Rattle.acl_print.specs.Views.{printed}
 use Rattle.acl_print.specs.Tasks.{tasks_text}
 use Rattle.acl_print.proofs.TaskLemmas.{popped, stepped_text, stepped_work}
@@ -29,6 +29,7 @@ loop-task-preserved g c =
       follows = Follows-then (g.K.Sink.written c.args.sink.now) (g.K.Sink.written c.loop-task.sink) (g.K.Sink.written c.flush_full.new.sink) (printed s p h c.args.w) c.step.new.out.items c.flush_full.new.out.items left
           (tasks_text s p h c.step.new.tasks.items) c.loop-task.invariant.follows same c.in_ok-flush_full.ensures.ok;
       counts = omega (arith, c.loop-task.invariant.counts, c.flush_full.ensures.counts);
+      quiet = c.in_ok-flush_full.ensures.quiet ∙ c.loop-task.invariant.quiet;
     }
 
 pub returns-in_err-flush_full-clause-part : goal.returns-in_err-flush_full-clause-part

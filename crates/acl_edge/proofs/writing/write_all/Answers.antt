@@ -1,4 +1,4 @@
-use Rattle.std.proofs.Common.{◌≡◌, ◌+◌, ◌-◌, ◌≤◌, arith, drop, rules}
+use Rattle.std.proofs.Common.{◌≡◌, ◌∙◌, ◌+◌, ◌-◌, ◌≤◌, arith, drop, rules}
 use Rattle.std.proofs.lemmas.List.{length-take}
 use Rattle.acl_edge.proofs.EndLemmas.{Takes-more, stopped_part}
 use Rattle.acl_edge.proofs.writing.write_all.Goals as goal
@@ -19,4 +19,5 @@ loop-at-preserved g c =
       takes = Takes-more (g.K.Sink.written c.args.sink.now) (g.K.Sink.written c.loop-at.sink) (g.K.Sink.written c.write.new.self) c.args.bytes.now c.loop-at.at c.in_ok-at.field-0 _ c.min-count.result k n
           c.loop-at.invariant.takes c.in_ok-at.ensures.takes;
       counts = omega (arith, c.loop-at.invariant.counts, c.write.ensures.counts);
+      quiet = c.in_ok-at.ensures.quiet ∙ c.loop-at.invariant.quiet;
     }

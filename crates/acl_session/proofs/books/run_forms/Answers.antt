@@ -1,5 +1,5 @@
 use Rattle.std.specs.Prelude.{◌+◌, ◌-◌, ◌<◌, length, Some, None, Ok}
-use Rattle.std.proofs.Common.{sym, ap, ◌∙◌, subst, arith, rules}
+use Rattle.std.proofs.Common.{refl, sym, ap, ◌∙◌, subst, arith, rules}
 use Rattle.model_symbols.specs.Symbols.{Table}
 use Rattle.model_symbols.specs.Growth.{Extends}
 use Rattle.model_symbols.specs.Opening.{opening}
@@ -32,6 +32,7 @@ loop-turn-init g c =
       writing = writing_start (g.K.Sink.written c.args.sink.now) _ _ (left_first (length c.args.input.now + 1) ((length c.args.input.now + 1) - 0) _ (totals_view c.args.totals.now) (offset_of c.in_ok-reader.reader) (unread c.in_ok-reader.reader) c.args.input.now
           (omega arith) (ap (λ (t : Table). let s : sessions.Session = record { table = t; current = 2; object = None } in s) e) n c.in_ok-reader.ensures.offset c.in_ok-reader.ensures.unread);
       counts = omega arith;
+      quiet = refl;
       start = c.mark-start.ensures ∙ ap length c.new-heap.ensures;
       commands = ap (λ t. t.commands) n;
       calls = omega (arith, ap (λ t. t.calls) n);
@@ -109,6 +110,7 @@ loop-turn-preserved g c =
           (answers ((length c.args.input.now + 1) - (c.loop-turn.turn + 1)) (session_view c.run_form.new.syms c.run_form.new.session) t (offset_of c.take.new.self) (unread c.take.new.self))
           (answers (length c.args.input.now + 1) sessions.first_session no_totals 0 c.args.input.now)) (sym c.count.ensures) more;
       counts = omega (arith, i.counts, c.write_line.ensures.counts);
+      quiet = c.in_ok-write_line-in-Some.ensures.quiet ∙ i.quiet;
       start = i.start;
       commands = omega (arith, n.commands, i.commands);
       calls = omega (arith, n.calls, k, c.in_ok-answer-in-Some.ensures.answers.says.calls, i.calls);

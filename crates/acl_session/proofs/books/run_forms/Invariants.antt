@@ -20,6 +20,7 @@ invariant-loop-turn g l = record {
       (answers ((length l.input + 1) - l.turn) (session_view l.syms l.session) (totals_view l.totals) (offset_of l.reader) (unread l.reader))
       (answers (length l.input + 1) first_session no_totals 0 l.input);
   counts : g.K.Sink.faults l.fn.sink ≤ g.K.Sink.faults l.sink;
+  quiet : g.K.Sink.faults l.sink ≡ g.K.Sink.faults l.fn.sink;
   start : l.start.top ≡ 0;
   commands : l.totals.commands ≡ l.turn;
   calls : l.totals.calls ≤ l.turn;
