@@ -1,6 +1,10 @@
 //! Runs an ACL2 book: reads it from standard input and writes its answers to standard output.
 #![tactic(auto)]
 
+ghost use Rattle.std.specs.Prelude.{◌≡◌};
+ghost use Rattle.std.specs.Process.{exit_status};
+ghost use Rattle.acl_base.specs.Status.{code_of};
+
 use acl_base::Status;
 use acl_edge::{StdSink, StdSource};
 use acl_session::run;
@@ -24,6 +28,13 @@ fn words(rt: &(impl Env + AllocGlobal)) -> Result<Vec<String>, Status> {
     Ok(words)
 }
 
+/// How the program ends, by how the run ended.
+fn ended(status: Status) -> ExitCode
+    ensures { exit_status result ≡ code_of status }
+{
+    ExitCode::from(status.code())
+}
+
 fn main(rt: HostRuntime) -> ExitCode {
     let status = match words(&rt) {
         Ok(words) => {
@@ -33,5 +44,5 @@ fn main(rt: HostRuntime) -> ExitCode {
         }
         Err(status) => status,
     };
-    ExitCode::from(status.code())
+    ended(status)
 }
