@@ -11,7 +11,8 @@ import pathlib
 CRATES = pathlib.Path(__file__).resolve().parent.parent / "crates"
 BOOKS = {
     "model_books_rows": "Worked books, each computed from the definitions: from the bytes of a book to the bytes of its answers.",
-    "model_event_rows": "Books of expansion and of events, each computed from the definitions: shapes, refusals in their order, counts.",
+    "model_exports_rows": "Books that stop inside an export, each computed from the definitions: the object is as it was at the export's call.",
+    "model_events_rows": "Books of expansion and of events, each computed from the definitions: shapes, refusals in their order, counts.",
 }
 STATUS = {"0": "Done", "1": "Errors", "2": "Words", "3": "Text"}
 

@@ -3,10 +3,10 @@ use Rattle.std.specs.Prelude.{◌≡◌, ℕ, ℤ, List, [], ◌∷◌, length, 
 use Rattle.std.proofs.Common.{sym, ap, ◌∙◌}
 use Rattle.std.proofs.lemmas.List.{append-nil, length-map}
 use Rattle.model_symbols.specs.Symbols.{QualifiedName, Table}
-use Rattle.model_output.specs.Commands as commands
-use Rattle.model_output.specs.Sessions as model
-use Rattle.model_output.specs.Lines.{refused, SymbolLimit}
-use Rattle.model_output.specs.Events.{with_names, new_field, new_object, new_names, names_of, first_in_use, if_good, if_room, if_free}
+use Rattle.model_output_so_far.specs.Commands as commands
+use Rattle.model_output_so_far.specs.Sessions as model
+use Rattle.model_output_so_far.specs.Lines.{refused, SymbolLimit}
+use Rattle.model_output_so_far.specs.Events.{with_names, new_field, new_object, new_names, names_of, first_in_use, if_good, if_room, if_free}
 use Rattle.acl_commands.specs.declared.definitions.NewField.{NewField}
 use Rattle.acl_commands.specs.Views.{field_views}
 use Rattle.acl_base.specs.declared.SymId.{SymId}

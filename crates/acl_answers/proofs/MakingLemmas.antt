@@ -8,7 +8,7 @@ use Rattle.model_symbols.specs.Tables.{symbol_under, IsTable}
 use Rattle.model_symbols.proofs.NameLemmas.{symbol_at-is, symbol-at, number-known, is_known-is, interned-known}
 use Rattle.model_symbols.proofs.TableLemmas.{Extends-self, Extends-then}
 use Rattle.model_prims.specs.Applied.{package_or}
-use Rattle.model_output.specs.Events.{beside, with_names, recognizer, creator, updater, field_names}
+use Rattle.model_output_so_far.specs.Events.{beside, with_names, recognizer, creator, updater, field_names}
 use Rattle.acl_syms.specs.Answers.{Interns}
 use Rattle.acl_forms.specs.Growth.{symbol_later}
 use Rattle.acl_base.specs.declared.SymId.{SymId}

@@ -4,8 +4,8 @@ use Rattle.std.proofs.Common.{sym, ap, ◌∙◌, subst, arith, get_or}
 use Rattle.std.proofs.lemmas.List.{append_assoc, append-nil, take_more, drop_more, map_push, take-append-drop}
 use Rattle.model_symbols.specs.Symbols.{QualifiedName, Package, Table}
 use Rattle.model_symbols.specs.Growth.{Extends}
-use Rattle.model_output.specs.Sessions as model
-use Rattle.model_output.specs.Events.{names_of, field_names, fields_names, new_names, new_field, recognizer, creator, updater}
+use Rattle.model_output_so_far.specs.Sessions as model
+use Rattle.model_output_so_far.specs.Events.{names_of, field_names, fields_names, new_names, new_field, recognizer, creator, updater}
 use Rattle.acl_base.specs.declared.SymId.{SymId}
 use Rattle.acl_forms.specs.Growth.{symbol_later}
 use Rattle.acl_commands.specs.declared.definitions.NewField.{NewField}

@@ -15,11 +15,11 @@ use Rattle.model_text.specs.Token.{Form}
 use Rattle.model_text.specs.Text.{text}
 use Rattle.model_prims.specs.Applied.{Applied, Gives, Stops, applied}
 use Rattle.model_prims.specs.Rows.{prim_of, arity_of, row_called}
-use Rattle.model_output.specs.Commands.{Actual}
-use Rattle.model_output.specs.Sessions as model
-use Rattle.model_output.specs.Lines.{refused, NotYet}
-use Rattle.model_output.specs.Running.{object_call}
-use Rattle.model_output.specs.Calls.{numbered, given, applied_row, on_constants, row_call, primitive_call, constant, with_constant, constants}
+use Rattle.model_output_so_far.specs.Commands.{Actual}
+use Rattle.model_output_so_far.specs.Sessions as model
+use Rattle.model_output_so_far.specs.Lines.{refused, NotYet}
+use Rattle.model_output_so_far.specs.Running.{object_call}
+use Rattle.model_output_so_far.specs.Calls.{numbered, given, applied_row, on_constants, row_call, primitive_call, constant, with_constant, constants}
 use Rattle.acl_base.specs.declared.Word.{Word}
 use Rattle.acl_heap.specs.Objects.{Objects, object_of}
 use Rattle.acl_forms.specs.Forms.{AreWhole, form_at, forms_at}

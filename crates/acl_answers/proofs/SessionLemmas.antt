@@ -4,7 +4,7 @@ use Rattle.std.proofs.Common.{ap, arith}
 use Rattle.std.specs.Option.{option_map}
 use Rattle.model_symbols.specs.Symbols.{Table}
 use Rattle.model_symbols.specs.Growth.{Extends}
-use Rattle.model_output.specs.Sessions as model
+use Rattle.model_output_so_far.specs.Sessions as model
 use Rattle.acl_forms.specs.Growth.{symbol_later}
 use Rattle.acl_answers.specs.declared.Session.{Session}
 use Rattle.acl_answers.specs.declared.stobj.Stobj.{Stobj}

@@ -9,7 +9,7 @@ use Rattle.model_symbols.specs.Symbols.{Table, symbol_at, same_name}
 use Rattle.model_symbols.specs.Tables.{IsTable}
 use Rattle.model_symbols.proofs.NameLemmas.{same_name-Decides, symbol-at}
 use Rattle.model_symbols.proofs.Positions.{position-map}
-use Rattle.model_output.specs.Sessions as model
+use Rattle.model_output_so_far.specs.Sessions as model
 use Rattle.acl_base.specs.declared.SymId.{SymId}
 use Rattle.acl_answers.specs.declared.stobj.Field.{Field}
 use Rattle.acl_answers.specs.Views.{name_of, field_view, fields_view}

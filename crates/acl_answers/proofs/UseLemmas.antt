@@ -7,8 +7,8 @@ use Rattle.std.specs.List.{list_any}
 use Rattle.std.proofs.lemmas.List.{drop_more, get_or-set_same, get_or-set_other}
 use Rattle.model_symbols.specs.Symbols.{Table, is_known}
 use Rattle.model_symbols.specs.Tables.{IsTable}
-use Rattle.model_output.specs.Events.{first_in_use}
-use Rattle.model_output.specs.Reserved.{is_reserved}
+use Rattle.model_output_so_far.specs.Events.{first_in_use}
+use Rattle.model_output_so_far.specs.Reserved.{is_reserved}
 use Rattle.acl_base.specs.declared.SymId.{SymId}
 use Rattle.acl_answers.specs.Views.{name_of, names_of}
 use Rattle.acl_answers.specs.Whole.{IsKnown, AreKnown}

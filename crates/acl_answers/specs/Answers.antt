@@ -1,6 +1,6 @@
 -- What an answer says.
 use Rattle.std.specs.Prelude.{◌≡◌}
-use Rattle.model_output.specs.Sessions as model
+use Rattle.model_output_so_far.specs.Sessions as model
 use Rattle.acl_answers.specs.declared.Answer.{Answer}
 
 -- the answer says this

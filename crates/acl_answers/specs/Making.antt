@@ -2,8 +2,8 @@
 use Rattle.std.specs.Prelude.{◌≡◌, List, ◌++◌, map, true}
 use Rattle.model_symbols.specs.Symbols.{QualifiedName, Table}
 use Rattle.model_symbols.specs.Growth.{Extends}
-use Rattle.model_output.specs.Commands as commands
-use Rattle.model_output.specs.Events.{with_names, new_field}
+use Rattle.model_output_so_far.specs.Commands as commands
+use Rattle.model_output_so_far.specs.Events.{with_names, new_field}
 use Rattle.acl_base.specs.declared.SymId.{SymId}
 use Rattle.acl_answers.specs.declared.stobj.Field.{Field}
 use Rattle.acl_answers.specs.Views.{names_of, fields_view}

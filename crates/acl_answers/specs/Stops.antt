@@ -3,8 +3,8 @@ use Rattle.std.specs.Prelude.{ℕ, List, []}
 use Rattle.model_symbols.specs.Symbols.{QualifiedName}
 use Rattle.model_text.specs.Token.{Form}
 use Rattle.model_prims.specs.Applied as stop
-use Rattle.model_output.specs.Sessions.{Session}
-use Rattle.model_output.specs.Calls.{stop_text}
+use Rattle.model_output_so_far.specs.Sessions.{Session}
+use Rattle.model_output_so_far.specs.Calls.{stop_text}
 use Rattle.acl_numbers.specs.declared.stops.PrimStop.{PrimStop}
 use Rattle.acl_numbers.specs.declared.stops.PrimStop.TheVariants as prim_stop
 

@@ -2,9 +2,9 @@
 use Rattle.std.specs.Prelude.{◌≡◌, ℕ, ◌<◌, List, length, map, Option, Some, None}
 use Rattle.std.specs.Option.{option_map}
 use Rattle.model_symbols.specs.Symbols.{QualifiedName, Table, symbol_at}
-use Rattle.model_output.specs.Sessions as model
-use Rattle.model_output.specs.Lines as lines
-use Rattle.model_output.specs.Objects.{read_field, updated_field}
+use Rattle.model_output_so_far.specs.Sessions as model
+use Rattle.model_output_so_far.specs.Lines as lines
+use Rattle.model_output_so_far.specs.Objects.{read_field, updated_field}
 use Rattle.acl_base.specs.declared.SymId.{SymId}
 use Rattle.acl_heap.specs.Objects.{Objects, object_of}
 use Rattle.acl_commands.specs.Views.{bytes_in}

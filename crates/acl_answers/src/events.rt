@@ -2,7 +2,7 @@
 
 ghost use Rattle.std.specs.Prelude.{◌≡◌, ◌<◌, map, length, IfOk, None};
 ghost use Rattle.model_symbols.specs.Growth.{Extends};
-ghost use Rattle.model_output.specs.Events as events;
+ghost use Rattle.model_output_so_far.specs.Events as events;
 ghost use Rattle.acl_heap.specs.Objects.{object_of, Lies, IsText};
 ghost use Rattle.acl_commands.specs.Views.{bytes_in, field_views};
 ghost use Rattle.acl_commands.specs.Whole as commands;

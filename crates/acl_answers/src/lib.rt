@@ -4,7 +4,7 @@
 ghost use Rattle.std.specs.Prelude.{◌≡◌, ◌<◌, length, IfOk, OnOk, OnErr};
 ghost use Rattle.model_symbols.specs.Growth.{Extends};
 ghost use Rattle.model_symbols.specs.Opening.{opening};
-ghost use Rattle.model_output.specs.Running as running;
+ghost use Rattle.model_output_so_far.specs.Running as running;
 ghost use Rattle.acl_forms.specs.Forms.{Grown};
 ghost use Rattle.acl_commands.specs.Views.{command_view};
 ghost use Rattle.acl_commands.specs.Whole.{IsWholeCommand};
@@ -46,7 +46,7 @@ pub struct Answer {
 }
 
 /// What a command gives in a session whose table of symbols has grown from the opening one.
-#[tactic(auto, using(acl_forms::specs::Growth::growing), unfolding(model_output::specs::Running::run))]
+#[tactic(auto, using(acl_forms::specs::Growth::growing), unfolding(model_output_so_far::specs::Running::run))]
 pub fn run_command(
     alloc: Global,
     command: &Command,

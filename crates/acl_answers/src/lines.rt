@@ -3,7 +3,7 @@
 ghost use Rattle.std.specs.Prelude.{◌≡◌, ◌<◌, ◌++◌, ◌∷◌, [], length, map, IfOk, OnOk, true, codes};
 ghost use Rattle.model_symbols.specs.Symbols.{symbol_at};
 ghost use Rattle.model_text.specs.Text.{text};
-ghost use Rattle.model_output.specs.Lines as lines;
+ghost use Rattle.model_output_so_far.specs.Lines as lines;
 ghost use Rattle.acl_heap.specs.Objects.{Lies, object_of, IsText};
 ghost use Rattle.acl_forms.specs.Forms.{IsWhole, AreWhole, form_at, forms_at};
 ghost use Rattle.acl_answers.specs.Views.{session_in, refusal_view};

@@ -4,7 +4,7 @@ ghost use Rattle.std.specs.Prelude.{◌≡◌, ◌<◌, ◌++◌, ◌∷◌, [],
 ghost use Rattle.std.specs.Option.{option_map};
 ghost use Rattle.model_symbols.specs.Symbols.{Table, symbol_at};
 ghost use Rattle.model_symbols.specs.Growth.{Extends};
-ghost use Rattle.model_output.specs.Events as events;
+ghost use Rattle.model_output_so_far.specs.Events as events;
 ghost use Rattle.acl_commands.specs.Views.{field_views};
 ghost use Rattle.acl_commands.specs.Whole as commands;
 ghost use Rattle.acl_answers.specs.Views.{name_of, names_of, fields_view};

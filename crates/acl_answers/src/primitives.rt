@@ -4,8 +4,8 @@ ghost use Rattle.std.specs.Prelude.{◌≡◌, ◌<◌, ◌++◌, ◌∷◌, [],
 ghost use Rattle.std.specs.Option.{option_map};
 ghost use Rattle.model_symbols.specs.Growth.{Extends};
 ghost use Rattle.model_symbols.specs.Opening.{opening};
-ghost use Rattle.model_output.specs.Calls as calls;
-ghost use Rattle.model_output.specs.Lines as lines;
+ghost use Rattle.model_output_so_far.specs.Calls as calls;
+ghost use Rattle.model_output_so_far.specs.Lines as lines;
 ghost use Rattle.acl_forms.specs.Forms.{IsWhole, AreWhole, Grown, form_at, forms_at};
 ghost use Rattle.acl_commands.specs.Views.{actual_view, actual_views};
 ghost use Rattle.acl_commands.specs.Whole.{IsWholeActual, AreWholeActuals};

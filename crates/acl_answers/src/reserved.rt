@@ -4,7 +4,7 @@ ghost use Rattle.std.specs.Prelude.{◌≡◌, ◌<◌, length, map};
 ghost use Rattle.std.specs.List.{list_any};
 ghost use Rattle.std.specs.Str.{bytes_eq};
 ghost use Rattle.model_symbols.specs.Symbols.{symbol_at};
-ghost use Rattle.model_output.specs.Reserved as reserved;
+ghost use Rattle.model_output_so_far.specs.Reserved as reserved;
 
 use acl_base::SymId;
 use acl_commands::home;
@@ -186,14 +186,14 @@ static OWN_NAMES: [&[u8]; 73] = [
     b"CW",
 ];
 
-#[tactic(auto, unfolding(model_output::specs::Reserved::reserved_lisp))]
+#[tactic(auto, unfolding(model_output_so_far::specs::Reserved::reserved_lisp))]
 fn lisp_names() -> &'static [&'static [u8]]
     ensures { map (λ name. name.now) result.now ≡ reserved.reserved_lisp }
 {
     &LISP_NAMES
 }
 
-#[tactic(auto, unfolding(model_output::specs::Reserved::reserved_own))]
+#[tactic(auto, unfolding(model_output_so_far::specs::Reserved::reserved_own))]
 fn own_names() -> &'static [&'static [u8]]
     ensures { map (λ name. name.now) result.now ≡ reserved.reserved_own }
 {
@@ -219,7 +219,7 @@ fn is_own_name(name: &[u8]) -> bool
 }
 
 /// Whether a symbol is the name of a head, a built-in macro, a core form or a primitive.
-#[tactic(auto, unfolding(model_output::specs::Reserved::is_reserved))]
+#[tactic(auto, unfolding(model_output_so_far::specs::Reserved::is_reserved))]
 pub fn is_reserved(syms: &Symbols, s: SymId) -> bool
     requires { s.0 < length syms.now.symbols }
     ensures { result ≡ reserved.is_reserved (symbol_at syms.now.symbols s.0) }

@@ -2,8 +2,8 @@
 
 ghost use Rattle.std.specs.Prelude.{◌≡◌, ◌<◌, length, IfSome, Some, None, position, option_map, nat_eq};
 ghost use Rattle.model_symbols.specs.Symbols.{symbol_at, same_name};
-ghost use Rattle.model_output.specs.Sessions as model;
-ghost use Rattle.model_output.specs.Objects as objects;
+ghost use Rattle.model_output_so_far.specs.Sessions as model;
+ghost use Rattle.model_output_so_far.specs.Objects as objects;
 ghost use Rattle.acl_answers.specs.Views.{name_of, fields_view, stobj_view, Uses, UsesOf};
 ghost use Rattle.acl_answers.specs.Whole.{IsKnown, IsKnownStobj, AreKnownFields};
 

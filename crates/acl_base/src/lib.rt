@@ -51,7 +51,7 @@ pub enum Word {
 pub const MOST_STEPS: u64 = 10_000_000;
 
 /// The most terms that a command may be allowed to have open.
-pub const MOST_DEPTH: u32 = 2_048;
+pub const MOST_DEPTH: u32 = 200_000;
 
 /// How many calls a command may make, and how many terms it may have open.
 #[derive(Clone, Copy, Debug, PartialEq, Eq)]

@@ -8,7 +8,7 @@ use Rattle.model_objects.specs.Object.{Object, Pair}
 use Rattle.model_objects.specs.Named.{Knows}
 use Rattle.model_symbols.specs.Symbols.{Package, Table, package_number, package_at, form_of}
 use Rattle.model_text.specs.Token.{Form}
-use Rattle.model_output.specs.Commands.{elements}
+use Rattle.model_output_so_far.specs.Commands.{elements}
 use Rattle.acl_base.specs.declared.Word.{Word}
 use Rattle.acl_heap.specs.Objects.{Objects, object_of, Lies}
 use Rattle.acl_forms.specs.Forms.{form_at, forms_at, IsWhole, AreWhole}

@@ -3,7 +3,7 @@ use Rattle.std.specs.Prelude.{ℕ, List, [], map}
 use Rattle.std.specs.Global.{Vec}
 use Rattle.model_objects.specs.Object.{Object, Integer, Symbol, Text, Pair}
 use Rattle.model_symbols.specs.Symbols.{Table, symbol_at}
-use Rattle.model_output.specs.Commands as commands
+use Rattle.model_output_so_far.specs.Commands as commands
 use Rattle.acl_heap.specs.Objects.{Objects, object_of}
 use Rattle.acl_forms.specs.Forms.{form_at}
 use Rattle.acl_commands.specs.declared.definitions.NewField.{NewField}

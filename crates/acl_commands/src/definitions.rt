@@ -3,7 +3,7 @@
 ghost use Rattle.std.specs.Prelude.{◌≡◌, ◌<◌, length, IfOk, IfSome, Some, None};
 ghost use Rattle.std.specs.Option.{option_map};
 ghost use Rattle.model_symbols.specs.Symbols.{symbol_at};
-ghost use Rattle.model_output.specs.Commands as commands;
+ghost use Rattle.model_output_so_far.specs.Commands as commands;
 ghost use Rattle.acl_forms.specs.Forms.{form_at, IsWhole, forms_at, AreWhole};
 ghost use Rattle.acl_commands.specs.Views.{field_view, field_views, field_list, command_view};
 ghost use Rattle.acl_commands.specs.Whole.{IsWholeCommand, AreKnownFields};

@@ -4,7 +4,7 @@
 ghost use Rattle.std.specs.Prelude.{◌≡◌, ◌<◌, length, map, IfOk, IfSome, Some, None};
 ghost use Rattle.std.specs.Option.{option_map, option_and_then};
 ghost use Rattle.model_symbols.specs.Symbols.{symbol_at};
-ghost use Rattle.model_output.specs.Commands as commands;
+ghost use Rattle.model_output_so_far.specs.Commands as commands;
 ghost use Rattle.acl_forms.specs.Forms.{form_at, IsWhole, forms_at, AreWhole};
 ghost use Rattle.acl_commands.specs.Views.{field_list, command_view, actual_view, actual_views};
 ghost use Rattle.acl_commands.specs.Whole.{IsWholeCommand, IsWholeActual, AreWholeActuals, AreKnownFields};
@@ -203,7 +203,7 @@ fn command_of_pair(
 }
 
 /// The command that a form is.
-#[tactic(auto, unfolding(model_output::specs::Commands::command_of))]
+#[tactic(auto, unfolding(model_output_so_far::specs::Commands::command_of))]
 pub fn command_of(
     alloc: Global,
     form: Word,

@@ -4,7 +4,7 @@ ghost use Rattle.std.specs.Prelude.{◌≡◌, ◌<◌, length, IfOk, IfSome, So
 ghost use Rattle.std.specs.Option.{option_map};
 ghost use Rattle.model_symbols.specs.Symbols.{QualifiedName, symbol_at, same_name};
 ghost use Rattle.model_symbols.specs.Opening.{nil_name};
-ghost use Rattle.model_output.specs.Commands as commands;
+ghost use Rattle.model_output_so_far.specs.Commands as commands;
 ghost use Rattle.acl_heap.specs.Objects.{object_of, Lies, IsText};
 ghost use Rattle.acl_forms.specs.Forms.{form_at, IsWhole, forms_at, AreWhole};
 ghost use Rattle.acl_commands.specs.Views.{bytes_in};

@@ -4,7 +4,7 @@ ghost use Rattle.std.specs.Prelude.{◌≡◌, [], ◌∷◌, ◌++◌, OnOk};
 ghost use Rattle.std.specs.List.{list_all};
 ghost use Rattle.model_text.specs.Text.{is_plain_byte, is_plain, escaped, name_text};
 
-use acl_tokens::is_like_number;
+use acl_read_tokens::is_like_number;
 use std::alloc::AllocError;
 
 fn is_plain_byte(byte: u8) -> bool

@@ -15,11 +15,11 @@ use Rattle.acl_base.specs.declared.Word.{Word}
 use Rattle.acl_heap.specs.Objects.{Objects}
 use Rattle.acl_forms.specs.Forms.{form_at, StandsFor, Grown}
 use Rattle.acl_forms.specs.Growth.{Grown-symbols, Grown-then}
-use Rattle.acl_lexemes.specs.Lexemes.{form_of}
-use Rattle.acl_scan.specs.declared.Built.{Built}
-use Rattle.acl_scan.specs.Built.{Grows}
-use Rattle.acl_scan.specs.Scanning.{form_step}
-use Rattle.acl_build.specs.Building.{HasNames}
+use Rattle.acl_read_lexemes.specs.Lexemes.{form_of}
+use Rattle.acl_read_scan.specs.declared.Built.{Built}
+use Rattle.acl_read_scan.specs.Built.{Grows}
+use Rattle.acl_read_scan.specs.Scanning.{form_step}
+use Rattle.acl_read_build.specs.Building.{HasNames}
 
 nil_is : IsSymbol opening.symbols 1 nil_name
 unfolding opening common_lisp_symbols common_lisp_text acl2_symbols acl2_text acl2_package

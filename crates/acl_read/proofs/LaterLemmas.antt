@@ -13,10 +13,10 @@ use Rattle.model_text_laws.specs.Laws.{Grow, Knows_more}
 use Rattle.model_text_laws.proofs.Later.{stays_read}
 use Rattle.acl_base.specs.declared.PkgId.{PkgId}
 use Rattle.acl_forms.specs.Growth.{package_later}
-use Rattle.acl_lexemes.specs.Lexemes.{open_parts, parts_of}
-use Rattle.acl_scan.specs.declared.Built.{Built}
-use Rattle.acl_scan.specs.Built.{state_at, inside_of, IsBuilt, packages_of}
-use Rattle.acl_scan.proofs.BuiltLemmas.{put_later, built_later}
+use Rattle.acl_read_lexemes.specs.Lexemes.{open_parts, parts_of}
+use Rattle.acl_read_scan.specs.declared.Built.{Built}
+use Rattle.acl_read_scan.specs.Built.{state_at, inside_of, IsBuilt, packages_of}
+use Rattle.acl_read_scan.proofs.BuiltLemmas.{put_later, built_later}
 use Rattle.acl_read.specs.declared.Reader.{Reader}
 use Rattle.acl_read.specs.Reading.{unread, offset_of, Fits, HasBuiltNothing, IsReady}
 use Rattle.acl_read.specs.Laws.{KeepsFitting}

@@ -9,8 +9,8 @@ use Rattle.model_text.proofs.RunLemmas.{run_append}
 use Rattle.acl_base.specs.declared.PkgId.{PkgId}
 use Rattle.acl_base.specs.declared.Word.{Word}
 use Rattle.acl_heap.specs.Objects.{Objects}
-use Rattle.acl_scan.specs.declared.Built.{Built}
-use Rattle.acl_scan.specs.Built.{state_at, IsBuilt, packages_of}
+use Rattle.acl_read_scan.specs.declared.Built.{Built}
+use Rattle.acl_read_scan.specs.Built.{state_at, IsBuilt, packages_of}
 use Rattle.acl_read.specs.declared.Reader.{Reader}
 use Rattle.acl_read.specs.Reading.{unread, offset_of, has_ended, Fits, HasBuiltNothing, IsReady, IsFresh, Takes, next_of}
 

@@ -7,9 +7,9 @@ use Rattle.model_text.specs.declared.TextFault.{TextFault}
 use Rattle.acl_base.specs.declared.Word.{Word}
 use Rattle.acl_heap.specs.Objects.{Objects}
 use Rattle.acl_forms.specs.Forms.{form_at, IsWhole}
-use Rattle.acl_lexemes.specs.Opening.{IsFault}
-use Rattle.acl_scan.specs.declared.Built.{Built}
-use Rattle.acl_scan.specs.Built.{state_at, IsBuilt}
+use Rattle.acl_read_lexemes.specs.Opening.{IsFault}
+use Rattle.acl_read_scan.specs.declared.Built.{Built}
+use Rattle.acl_read_scan.specs.Built.{state_at, IsBuilt}
 
 -- what came is what stands first
 abbrev pub Answers : Packages → Table → Objects → Step → Bool → Built → Result (Option Word) TextFault → Type 0

@@ -8,10 +8,10 @@ use Rattle.acl_base.specs.declared.PkgId.{PkgId}
 use Rattle.acl_base.specs.declared.Word.{Word}
 use Rattle.acl_heap.specs.Objects.{Objects}
 use Rattle.acl_forms.specs.Forms.{form_at, IsWhole}
-use Rattle.acl_lexemes.specs.Opening.{IsFault}
-use Rattle.acl_scan.specs.declared.Built.{Built}
-use Rattle.acl_scan.specs.declared.Inside.TheVariants.{Free}
-use Rattle.acl_scan.specs.Built.{state_at, IsBuilt, packages_of}
+use Rattle.acl_read_lexemes.specs.Opening.{IsFault}
+use Rattle.acl_read_scan.specs.declared.Built.{Built}
+use Rattle.acl_read_scan.specs.declared.Inside.TheVariants.{Free}
+use Rattle.acl_read_scan.specs.Built.{state_at, IsBuilt, packages_of}
 use Rattle.acl_read.specs.declared.Reader.{Reader}
 
 -- the bytes fed and not yet taken

@@ -5,16 +5,16 @@ ghost use Rattle.model_symbols.specs.Growth.{Extends};
 ghost use Rattle.model_symbols.specs.Opening.{opening};
 ghost use Rattle.model_text.specs.Next.{Gives, Fails, run};
 ghost use Rattle.acl_forms.specs.Forms.{form_at, IsWhole, Grown};
-ghost use Rattle.acl_lexemes.specs.Opening.{IsFault, IsForm};
-ghost use Rattle.acl_scan.specs.Built.{state_at, IsBuilt, packages_of};
-ghost use Rattle.acl_scan.specs.Scanning.{form_step};
+ghost use Rattle.acl_read_lexemes.specs.Opening.{IsFault, IsForm};
+ghost use Rattle.acl_read_scan.specs.Built.{state_at, IsBuilt, packages_of};
+ghost use Rattle.acl_read_scan.specs.Scanning.{form_step};
 ghost use Rattle.acl_read.specs.Answering.{Answers, IsFoundNear};
 
 use crate::{TextCause, TextFault};
 use acl_base::{PkgId, Word};
-use acl_build::{Refusal, build};
 use acl_heap::Heap;
-use acl_scan::{Built, Progress, advance};
+use acl_read_build::{Refusal, build};
+use acl_read_scan::{Built, Progress, advance};
 use acl_syms::Symbols;
 use std::alloc::Global;
 

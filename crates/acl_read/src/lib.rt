@@ -7,8 +7,8 @@ mod answering;
 mod growing;
 mod reading;
 
-use acl_scan::Built;
-pub use acl_scan::{TextCause, TextFault};
+use acl_read_scan::Built;
+pub use acl_read_scan::{TextCause, TextFault};
 pub use growing::growth_keeps_readers;
 use std::alloc::Global;
 

@@ -5,7 +5,7 @@ ghost use Rattle.model_symbols.specs.Symbols.{QualifiedName, Table};
 ghost use Rattle.model_symbols.specs.Growth.{Extends};
 ghost use Rattle.model_symbols.specs.Opening.{opening};
 ghost use Rattle.acl_base.specs.declared.PkgId.{PkgId};
-ghost use Rattle.acl_scan.specs.Built.{IsBuilt};
+ghost use Rattle.acl_read_scan.specs.Built.{IsBuilt};
 ghost use Rattle.model_text.specs.declared.TextCause.TheVariants.{Memory};
 ghost use Rattle.acl_forms.specs.Forms.{Grown, IsWhole};
 ghost use Rattle.acl_read.specs.Reading.{IsFresh, unread, offset_of, has_ended, fault_of, Fits, HasBuiltNothing, IsReady, Takes, FeedFault};
@@ -14,7 +14,7 @@ use crate::answering::next_word;
 use crate::{Reader, TextCause, TextFault};
 use acl_base::{PkgId, Word};
 use acl_heap::Heap;
-use acl_scan::{Built, Inside};
+use acl_read_scan::{Built, Inside};
 use acl_syms::Symbols;
 use std::alloc::Global;
 

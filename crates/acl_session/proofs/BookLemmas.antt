@@ -13,14 +13,14 @@ use Rattle.model_text.specs.declared.TextCause.TheVariants.{Memory}
 use Rattle.model_text.specs.declared.TextFault.{TextFault}
 use Rattle.model_prims.specs.Applied.{Applied, Gives, Stops, applied}
 use Rattle.model_prims.specs.Rows.{prim_of, arity_of, row_called}
-use Rattle.model_output.specs.Commands.{Command, Define, Enter, Misshapen, Call, Other, NewField, Actual, Literal, Quoted, Variable, Nested, command_of}
-use Rattle.model_output.specs.Sessions as model
-use Rattle.model_output.specs.Lines.{refused, NotYet, SymbolLimit, UnknownPackage}
-use Rattle.model_output.specs.Objects.{with_literal, with_quoted, with_actual, is_object, was_read, read_call, update_call, read_field, updated_field}
-use Rattle.model_output.specs.Calls.{numbered, given, applied_row, on_constants, row_call, constants}
-use Rattle.model_output.specs.Events.{names_of, new_names, first_bad, first_in_use, with_names, if_free, if_good, define, enter_found}
-use Rattle.model_output.specs.Running.{field_call, object_call, run}
-use Rattle.model_output.specs.Output.{Output, Totals, no_totals, before, line, counted, answers, at_next, ended, faulty, cause_name}
+use Rattle.model_output_so_far.specs.Commands.{Command, Define, Enter, Misshapen, Call, Other, NewField, Actual, Literal, Quoted, Variable, Nested, command_of}
+use Rattle.model_output_so_far.specs.Sessions as model
+use Rattle.model_output_so_far.specs.Lines.{refused, NotYet, SymbolLimit, UnknownPackage}
+use Rattle.model_output_so_far.specs.Objects.{with_literal, with_quoted, with_actual, is_object, was_read, read_call, update_call, read_field, updated_field}
+use Rattle.model_output_so_far.specs.Calls.{numbered, given, applied_row, on_constants, row_call, constants}
+use Rattle.model_output_so_far.specs.Events.{names_of, new_names, first_bad, first_in_use, with_names, if_free, if_good, define, enter_found}
+use Rattle.model_output_so_far.specs.Running.{field_call, object_call, run}
+use Rattle.model_output_so_far.specs.Output.{Output, Totals, no_totals, before, line, counted, answers, at_next, ended, faulty, cause_name}
 use Rattle.acl_base.specs.declared.Word.{Word}
 use Rattle.acl_heap.specs.Objects.{Objects}
 use Rattle.acl_forms.specs.Forms.{form_at}

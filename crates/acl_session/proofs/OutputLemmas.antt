@@ -7,8 +7,8 @@ use Rattle.acl_base.specs.declared.status.Status.{Status}
 use Rattle.acl_base.specs.declared.status.Status.TheVariants.{Done, Errors, Words, Text, ReadFault, WriteFault, Memory}
 use Rattle.acl_edge.specs.Outside.{Takes, TakesPart}
 use Rattle.acl_edge.proofs.EndLemmas.{Takes-nothing, Takes-then}
-use Rattle.model_output.specs.Sessions as sessions
-use Rattle.model_output.specs.Output.{Output, Totals, output, before, line, answers, no_totals, summary_text, fault_text, faulty, one_if, most_bytes}
+use Rattle.model_output_so_far.specs.Sessions as sessions
+use Rattle.model_output_so_far.specs.Output.{Output, Totals, output, before, line, answers, no_totals, summary_text, fault_text, faulty, one_if, most_bytes}
 use Rattle.acl_answers.specs.declared.Answer.{Answer}
 use Rattle.acl_session.specs.Runs.{Tells, IsInput, Ends, IsRun, Writing, Finishes, IsPlain, counted_by}
 

@@ -3,7 +3,7 @@ use Rattle.std.specs.Prelude.{◌≡◌, ℕ, ◌≤◌, ◌<◌, List, [], ◌+
 use Rattle.std.proofs.Common.{ap, ◌∙◌, arith}
 use Rattle.std.proofs.lemmas.List.{take-take, take-append-le}
 use Rattle.acl_edge.specs.Outside.{Gives, IsSpent}
-use Rattle.model_output.specs.Output.{most_bytes}
+use Rattle.model_output_so_far.specs.Output.{most_bytes}
 use Rattle.acl_session.specs.Runs.{IsInput}
 
 -- a source gave all, or more than a book may have

@@ -4,7 +4,7 @@ use Rattle.acl_edge.specs.Outside.{Takes, TakesPart}
 use Rattle.acl_base.specs.declared.status.Status.{Status}
 use Rattle.acl_base.specs.declared.status.Status.TheVariants.{Done, Errors, Words, Text, ReadFault, WriteFault, Memory}
 use Rattle.model_text.specs.declared.TextFault.{TextFault}
-use Rattle.model_output.specs.Output.{Output, Totals, output, before, one_if, most_bytes, ended, faulty, cause_name}
+use Rattle.model_output_so_far.specs.Output.{Output, Totals, output, before, one_if, most_bytes, ended, faulty, cause_name}
 use Rattle.acl_session.specs.declared.totals.Totals as code
 use Rattle.acl_answers.specs.declared.Answer.{Answer}
 

@@ -2,7 +2,7 @@
 
 ghost use Rattle.std.specs.Prelude.{◌≡◌, ◌≤◌, IfOk, OnOk, OnErr, IsErrOf, codes};
 ghost use Rattle.acl_edge.specs.Outside.{Takes, TakesPart, HasRisen};
-ghost use Rattle.model_output.specs.Output as output;
+ghost use Rattle.model_output_so_far.specs.Output as output;
 ghost use Rattle.acl_session.specs.Runs.{Finishes, IsPlain, totals_view, end_output};
 
 use crate::books::run_forms;

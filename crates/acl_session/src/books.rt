@@ -3,10 +3,10 @@
 ghost use Rattle.std.specs.Prelude.{◌≡◌, ◌≤◌, ◌<◌, ◌+◌, ◌^◌, length, IfOk, OnOk, OnErr, IsErrOf, None, true};
 ghost use Rattle.model_symbols.specs.Growth.{Extends};
 ghost use Rattle.model_symbols.specs.Opening.{opening};
-ghost use Rattle.model_output.specs.Commands as commands;
-ghost use Rattle.model_output.specs.Running as running;
-ghost use Rattle.model_output.specs.Sessions as sessions;
-ghost use Rattle.model_output.specs.Output as output;
+ghost use Rattle.model_output_so_far.specs.Commands as commands;
+ghost use Rattle.model_output_so_far.specs.Running as running;
+ghost use Rattle.model_output_so_far.specs.Sessions as sessions;
+ghost use Rattle.model_output_so_far.specs.Output as output;
 ghost use Rattle.acl_edge.specs.Outside.{TakesPart, HasRisen};
 ghost use Rattle.acl_forms.specs.Forms.{IsWhole, form_at};
 ghost use Rattle.acl_read.specs.Reading as reading;

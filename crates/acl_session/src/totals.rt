@@ -1,7 +1,7 @@
 //! How many commands, calls and errors there were.
 
 ghost use Rattle.std.specs.Prelude.{◌≡◌, ◌<◌, ◌+◌, ◌^◌, IfOk};
-ghost use Rattle.model_output.specs.Output as output;
+ghost use Rattle.model_output_so_far.specs.Output as output;
 ghost use Rattle.acl_session.specs.Runs.{totals_view, counted_by};
 
 use acl_answers::Answer;
@@ -41,7 +41,7 @@ impl Totals {
     }
 
     /// The summary line, without the byte that ends it.
-    #[tactic(auto, unfolding(model_output::specs::Output::summary_text))]
+    #[tactic(auto, unfolding(model_output_so_far::specs::Output::summary_text))]
     pub fn summary(&self, alloc: Global) -> Result<Vec<u8>, AllocError>
         ensures { IfOk result (λ line. line.items ≡ output.summary_text (totals_view self.now)) }
     {

@@ -3,7 +3,7 @@ use Rattle.std.specs.Prelude.{ℕ, List, map, Bool, true, false, Option, Some, N
 use Rattle.model_symbols.specs.Symbols.{QualifiedName, form_of}
 use Rattle.model_eval.specs.Outcomes.{Shown, Plain, Stobj, Stop, Guard, Steps, Depth, Range, Large, Symbols}
 use Rattle.model_expansion.specs.Faults.{ExpandFault, MacroArgs, BadShape, MacroStopped, UnknownFunction, Arity, TooNested, Refusal, NameInUse, BadName, DuplicateFormal, BadDeclare, BadType, BadInitial, CongruenceMismatch, UnknownPackage, PackageExists, ImportClash, SymbolLimit, NotSupported, Thread, Expand, FoundationNotConcrete, MissingFunction, SignatureMismatch, GuardNotExecutable, TooLarge}
-use Rattle.model_books.specs.Commands.{Answered, Event, Skipped, Values, Show, Cells, Refused, Stopped}
+use Rattle.model_books.specs.Commands.{Answer, Event, Skipped, Values, Show, Cells, Refused, Stopped}
 
 module _ (symbols : List QualifiedName) where
   abbrev pub shown_named : Shown ℕ → Shown QualifiedName
@@ -18,7 +18,7 @@ module _ (symbols : List QualifiedName) where
   stop_named (Large f) = Large f
   stop_named (Symbols f) = Symbols f
 
-  unfoldable pub answer_named : Answered ℕ → Answered QualifiedName
+  unfoldable pub answer_named : Answer ℕ → Answer QualifiedName
   answer_named (Event said) = Event said
   answer_named Skipped = Skipped
   answer_named (Values values) = Values (map shown_named values)
@@ -70,7 +70,7 @@ is_excepted_refusal (SignatureMismatch x) = false
 is_excepted_refusal (GuardNotExecutable x f) = false
 is_excepted_refusal (TooLarge x) = false
 
-unfoldable pub is_excepted : Answered ℕ → Bool
+unfoldable pub is_excepted : Answer ℕ → Bool
 is_excepted (Event said) = false
 is_excepted Skipped = false
 is_excepted (Values values) = false

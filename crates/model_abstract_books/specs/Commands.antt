@@ -6,50 +6,51 @@ use Rattle.std.specs.Map.{lookup}
 use Rattle.model_objects.specs.Object.{Object, Integer, Symbol, Text, Pair}
 use Rattle.model_symbols.specs.Symbols.{QualifiedName, import_clash}
 use Rattle.model_prims.specs.Kinds.{by_name, is_nil}
-use Rattle.model_lists.specs.Lists.{ObjectList, as_object}
+use Rattle.model_lists.specs.Lists.{StobjList, as_object}
 use Rattle.model_lists.specs.Normal.{name_cmp, normal, list_cells}
 use Rattle.model_terms.specs.Cores.{Core}
 use Rattle.model_terms.specs.Faults.{Fault, expression_fault, constant_fault}
-use Rattle.model_eval.specs.Outcomes.{Objects, State, Ended, Gives, Stops, Unknown}
+use Rattle.model_eval.specs.Outcomes.{Stobjs, State, Outcome, Gives, Stops, Unknown}
 use Rattle.model_eval.specs.Scopes.{single, object_of}
 use Rattle.model_eval.specs.Checked.{live}
-use Rattle.model_eval.specs.Logic.{Book, Thing}
-use Rattle.model_eval.specs.AbstractRules.{abstract_fresh, abstractly}
+use Rattle.model_logic.specs.Logic.{Theory, Thing}
+use Rattle.model_abstract.specs.Rules.{abstract_fresh, abstractly}
 use Rattle.model_expansion.specs.Words.{defconst_word, defpkg_word}
 use Rattle.model_expansion.specs.Forms.{elements}
 use Rattle.model_expansion.specs.Faults.{Refusal, BadShape, Expand, Thread}
-use Rattle.model_expansion.specs.Expansion.{Progress, Expanded, Makes, Fails, expanded}
-use Rattle.model_stobjs.specs.Answers.{Answer, Grants, Refuses, Halts}
+use Rattle.model_expansion.specs.Expansion.{Progress, at_start, Expanded, Makes, Fails, expanded}
+use Rattle.model_stobjs.specs.Answers.{EventResult, Grants, Refuses, Halts}
 use Rattle.model_stobjs.specs.Heads.{name_in_use}
 use Rattle.model_events.specs.Constants.{name_and_form, bad_constant_name, number, text_and_form, clash_refusal, exists_already}
 use Rattle.model_events.specs.Events.{Standing, Limits, Admitted, Name, PackageName, setting, admitted}
 use Rattle.model_books.specs.Opening.{Session}
 use Rattle.model_abstract_books.specs.Answers.{stop_named}
-use Rattle.model_books.specs.Commands.{Answered, Event, Skipped, Values, Show, Cells, Refused, Stopped, Ways, at_start, live_scope, way_of, command}
+use Rattle.model_books.specs.Commands.{Answer, Event, Skipped, Values, Show, Cells, Refused, Stopped, Ways, live_scope, way_of, command}
 
 -- the list of each live object by its name, with symbols by name
 abbrev pub Lists : Type 0
-Lists = Objects QualifiedName
+Lists = Stobjs QualifiedName
 
 pub record AbstractOutcome : Type 0 where
   pub lists : Lists
-  pub answer : Answered QualifiedName
+  pub answer : Answer QualifiedName
   pub calls : ℕ
+  pub value : Option Thing  -- of the constant that the command defined
 
-abbrev pub book_of : Standing → List QualifiedName → Book
-book_of standing symbols = record { world = standing.world; packages = standing.packages; symbols = symbols }
+abbrev pub theory_of : Standing → List QualifiedName → Theory
+theory_of standing symbols = record { world = standing.world; packages = standing.packages; symbols = symbols }
 
-abbrev pub with_value : Option (ObjectList QualifiedName) → (ObjectList QualifiedName → Option AbstractOutcome) → Option AbstractOutcome
+abbrev pub with_value : Option (StobjList QualifiedName) → (StobjList QualifiedName → Option AbstractOutcome) → Option AbstractOutcome
 with_value None go = None
 with_value (Some l) go = go l
 
 -- The standing and the symbols are those of the session; None where the budget of calls does not suffice for a value of the
 -- logic.
 module _ (budget : ℕ) (k : Limits) (s : Session) (lists : Lists) where
-  abbrev pub outcome : Lists → Answered QualifiedName → ℕ → Option AbstractOutcome
-  outcome after answer calls = Some (record { lists = after; answer = answer; calls = calls })
+  abbrev pub outcome : Lists → Answer QualifiedName → ℕ → Option AbstractOutcome
+  outcome after answer calls = Some (record { lists = after; answer = answer; calls = calls; value = None })
 
-  abbrev pub at_once : Answered QualifiedName → Option AbstractOutcome
+  abbrev pub at_once : Answer QualifiedName → Option AbstractOutcome
   at_once answer = outcome lists answer 0
 
   -- a refusal that keeps all lists
@@ -66,9 +67,9 @@ module _ (budget : ℕ) (k : Limits) (s : Session) (lists : Lists) where
   abbrev pub created_outcome : Admitted → Progress → Option ℕ → Option AbstractOutcome
   created_outcome a p None = outcome lists (Event a.said) p.outer
   created_outcome a p (Some x) =
-      with_value (abstract_fresh (book_of a.standing p.symbols) budget x) (λ l. outcome (lists ++ (x, l) ∷ []) (Event a.said) p.outer)
+      with_value (abstract_fresh (theory_of a.standing p.symbols) budget x) (λ l. outcome (lists ++ (x, l) ∷ []) (Event a.said) p.outer)
 
-  abbrev pub event_outcome : Answer Admitted → Option AbstractOutcome
+  abbrev pub event_outcome : EventResult Admitted → Option AbstractOutcome
   event_outcome (Grants a p) = created_outcome a p a.created
   event_outcome (Refuses r p) = refused r p
   event_outcome (Halts stop inside p) = outcome lists (Stopped (stop_named p.symbols stop) inside) p.outer
@@ -76,16 +77,16 @@ module _ (budget : ℕ) (k : Limits) (s : Session) (lists : Lists) where
   -- ---- what an expansion makes, evaluated on these lists, no call of an export's exec function being counted
 
   abbrev pub begun : Lists → Progress → State QualifiedName
-  begun scope p = record { objects = scope; symbols = p.symbols; calls = p.outer; outer = 0 }
+  begun scope p = record { stobjs = scope; symbols = p.symbols; calls = p.outer; outer = 0 }
 
-  abbrev pub evaluated_on : Lists → Core → Progress → Ended QualifiedName
-  evaluated_on scope f p = abstractly (book_of s.standing p.symbols) budget k.steps k.depth f (live scope) (begun scope p)
+  abbrev pub evaluated_on : Lists → Core → Progress → Outcome QualifiedName
+  evaluated_on scope f p = abstractly (theory_of s.standing p.symbols) budget k.steps k.depth f (live scope) (begun scope p)
 
   -- ---- constants and packages: their form is evaluated with no object in scope
 
-  abbrev pub constant_ended : (Thing → ℕ → Option AbstractOutcome) → Ended QualifiedName → Option AbstractOutcome
+  abbrev pub constant_ended : (Thing → ℕ → Option AbstractOutcome) → Outcome QualifiedName → Option AbstractOutcome
   constant_ended go (Gives values state) = go (object_of by_name (single by_name values)) state.calls
-  constant_ended go (Stops stop inside state) = outcome lists (Stopped stop inside) state.calls
+  constant_ended go (Stops stop origin state) = outcome lists (Stopped stop origin.inside) state.calls
   constant_ended go Unknown = None
 
   abbrev pub constant_made : (Thing → ℕ → Option AbstractOutcome) → Expanded Core → Option AbstractOutcome
@@ -99,7 +100,7 @@ module _ (budget : ℕ) (k : Limits) (s : Session) (lists : Lists) where
   constant_outcome None = refused (Expand (BadShape defconst_word)) (at_start s.symbols)
   constant_outcome (Some c) =
       unless_refused (option_or (bad_constant_name s.symbols c.0) (name_in_use s.standing.world (number c.0 ∷ []))) (at_start s.symbols)
-      (constant_value c.1 (λ v calls. outcome lists (Event (Name (number c.0))) calls))
+      (constant_value c.1 (λ v calls. Some (record { lists = lists; answer = Event (Name (number c.0)); calls = calls; value = Some v })))
 
   -- the symbols of a true list of symbols
   abbrev pub names_in : Thing → Option (List QualifiedName)
@@ -116,7 +117,7 @@ module _ (budget : ℕ) (k : Limits) (s : Session) (lists : Lists) where
   package_refusal symbols name (Some imports) =
       option_or (exists_already s.standing.packages name) (option_map (clash_refusal symbols) (import_clash imports))
 
-  abbrev pub package_answer : List ℕ → Option Refusal → Answered QualifiedName
+  abbrev pub package_answer : List ℕ → Option Refusal → Answer QualifiedName
   package_answer name None = Event (PackageName name)
   package_answer name (Some r) = Refused r
 
@@ -128,9 +129,9 @@ module _ (budget : ℕ) (k : Limits) (s : Session) (lists : Lists) where
 
   -- ---- expressions
 
-  abbrev pub evaluated_outcome : Ended QualifiedName → Option AbstractOutcome
-  evaluated_outcome (Gives values state) = outcome state.objects (Values values) state.calls
-  evaluated_outcome (Stops stop inside state) = outcome state.objects (Stopped stop inside) state.calls
+  abbrev pub evaluated_outcome : Outcome QualifiedName → Option AbstractOutcome
+  evaluated_outcome (Gives values state) = outcome state.stobjs (Values values) state.calls
+  evaluated_outcome (Stops stop origin state) = outcome state.stobjs (Stopped stop origin.inside) state.calls
   evaluated_outcome Unknown = None
 
   abbrev pub core_outcome : Core → Progress → Option Fault → Option AbstractOutcome
@@ -143,10 +144,10 @@ module _ (budget : ℕ) (k : Limits) (s : Session) (lists : Lists) where
 
   -- ---- `:SHOW` and `:CELLS`
 
-  abbrev pub shown_object : ObjectList QualifiedName → Object QualifiedName
+  abbrev pub shown_object : StobjList QualifiedName → Object QualifiedName
   shown_object l = as_object by_name (normal name_cmp l)
 
-  abbrev pub live_list : ℕ → Option (ObjectList QualifiedName)
+  abbrev pub live_list : ℕ → Option (StobjList QualifiedName)
   live_list x = lookup (nat_eq x) lists
 
   abbrev pub all_cells : Lists → ℕ

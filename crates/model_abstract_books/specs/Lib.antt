@@ -1,8 +1,5 @@
 pub mod Answers
 pub mod Commands
 pub mod Holding
-pub mod HoldingRows
-pub mod Books
-pub mod Rows
-pub mod Identity
-pub mod Laws
+pub mod Foundations
+pub mod Cut

@@ -5,39 +5,40 @@ use Rattle.std.specs.Str.{bytes_eq}
 use Rattle.std.specs.Map.{lookup}
 use Rattle.model_objects.specs.Object.{Object, Integer, Symbol, Text, Pair}
 use Rattle.model_symbols.specs.Symbols.{QualifiedName}
-use Rattle.model_lists.specs.Lists.{ObjectList}
-use Rattle.model_lists.specs.Layouts.{initial}
+use Rattle.model_lists.specs.Lists.{StobjList}
 use Rattle.model_lists.specs.Normal.{shown, held_cells}
 use Rattle.model_terms.specs.Cores.{Core}
 use Rattle.model_terms.specs.Worlds.{World, Stobj, Entry, Scope}
 use Rattle.model_terms.specs.Faults.{Fault, expression_fault}
-use Rattle.model_eval.specs.Outcomes.{Shown, Stop, Depth, Objects, State, Ended, Gives, Stops, Unknown}
-use Rattle.model_eval.specs.Worlds.{object_layout}
+use Rattle.model_eval.specs.Outcomes.{Shown, Stop, Depth, Stobjs, here, State, Outcome, Gives, Stops, Unknown}
+use Rattle.model_eval.specs.Worlds.{new_list}
 use Rattle.model_eval.specs.Checked.{checked, begun, live}
 use Rattle.model_expansion.specs.Forms.{elements, symbol, among, name_of, is_keyword}
 use Rattle.model_expansion.specs.Faults.{Refusal, BadShape, Expand, Thread, NotSupported}
-use Rattle.model_expansion.specs.Expansion.{Setting, Progress, progress_after, Expanded, Makes, Fails, expanded}
-use Rattle.model_stobjs.specs.Answers.{Answer, Grants, Refuses, Halts}
+use Rattle.model_expansion.specs.Expansion.{Setting, Progress, at_start, evaluated_to, Expanded, Makes, Fails, expanded}
+use Rattle.model_stobjs.specs.Answers.{EventResult, Grants, Refuses, Halts}
 use Rattle.model_stobjs.specs.Heads.{event_heads, is_skipped, is_unsupported}
 use Rattle.model_events.specs.Events.{Standing, Limits, Said, Admitted, setting, admitted}
 use Rattle.model_books.specs.Opening.{Session}
 
 -- an answer, over any kind of symbols
-pub data Answered (S : Type 0) : Type 0 where
-  Event : Said → Answered S
-  Skipped : Answered S
-  Values : List (Shown S) → Answered S
-  Show : Object S → Answered S
-  Cells : ℕ → Answered S
-  Refused : Refusal → Answered S
-  Stopped : Stop S → Option ℕ → Answered S  -- also the outermost export that it came inside
+pub data Answer (S : Type 0) : Type 0 where
+  Event : Said → Answer S
+  Skipped : Answer S
+  Values : List (Shown S) → Answer S
+  Show : Object S → Answer S
+  Cells : ℕ → Answer S
+  Refused : Refusal → Answer S
+  Stopped : Stop S → Option ℕ → Answer S  -- also the outermost export that it came inside
 
-pub record Outcome : Type 0 where
+pub record Answered : Type 0 where
   pub session : Session
-  pub answer : Answered ℕ
+  pub answer : Answer ℕ
   -- the calls, and those of them that no export made
   pub calls : ℕ
   pub outer : ℕ
+  -- the outer call of the evaluation of the command's form before which abstract evaluation is cut to have done as much
+  pub cut : ℕ
 
 -- ---- the kinds of commands
 
@@ -85,80 +86,73 @@ module _ {O : Type 0} (ways : Ways O) (symbols : List QualifiedName) where
 
 -- ---- answers
 
-abbrev pub at_start : List QualifiedName → Progress
-at_start symbols = record { calls = 0; outer = 0; symbols = symbols }
-
 -- each live object under its own name
-abbrev pub live_scope : {S : Type 0} → Objects S → Scope
-live_scope objects = map (λ o. record { name = o.0; kind = Stobj o.0 }) objects
+abbrev pub live_scope : {S : Type 0} → Stobjs S → Scope
+live_scope stobjs = map (λ o. record { name = o.0; kind = Stobj o.0 }) stobjs
 
 module _ (k : Limits) (s : Session) where
   abbrev pub with_symbols : Progress → Session
   with_symbols p = record s { symbols = p.symbols }
 
-  abbrev pub outcome : Session → Answered ℕ → Progress → Outcome
-  outcome after answer p = record { session = after; answer = answer; calls = p.calls; outer = p.outer }
+  abbrev pub outcome : Session → Answer ℕ → Progress → Answered
+  outcome after answer p = record { session = after; answer = answer; calls = p.calls; outer = p.outer; cut = p.cut }
 
   -- an answer that counts nothing and changes nothing
-  abbrev pub at_once : Answered ℕ → Outcome
+  abbrev pub at_once : Answer ℕ → Answered
   at_once answer = outcome s answer (at_start s.symbols)
 
   -- ---- events
 
-  -- the list of a new object
-  abbrev pub new_list : World → ℕ → ObjectList ℕ
-  new_list w x = initial (object_layout (λ (o : Object ℕ). o) w x)
+  abbrev pub with_created : Standing → Option ℕ → Stobjs ℕ
+  with_created standing None = s.stobjs
+  with_created standing (Some x) = s.stobjs ++ (x, new_list standing.world x) ∷ []
 
-  abbrev pub with_created : Standing → Option ℕ → Objects ℕ
-  with_created standing None = s.objects
-  with_created standing (Some x) = s.objects ++ (x, new_list standing.world x) ∷ []
-
-  abbrev pub event_outcome : Answer Admitted → Outcome
+  abbrev pub event_outcome : EventResult Admitted → Answered
   event_outcome (Grants a p) =
-      outcome (record { standing = a.standing; symbols = p.symbols; objects = with_created a.standing a.created }) (Event a.said) p
+      outcome (record { standing = a.standing; symbols = p.symbols; stobjs = with_created a.standing a.created }) (Event a.said) p
   event_outcome (Refuses r p) = outcome (with_symbols p) (Refused r) p
   event_outcome (Halts stop inside p) = outcome (with_symbols p) (Stopped stop inside) p
 
   -- ---- expressions
 
   abbrev pub state_session : State ℕ → Session
-  state_session state = record s { symbols = state.symbols; objects = state.objects }
+  state_session state = record s { symbols = state.symbols; stobjs = state.stobjs }
 
-  abbrev pub evaluated_outcome : Progress → Ended ℕ → Outcome
-  evaluated_outcome p (Gives values state) = outcome (state_session state) (Values values) (progress_after p state)
-  evaluated_outcome p (Stops stop inside state) = outcome (state_session state) (Stopped stop inside) (progress_after p state)
+  abbrev pub evaluated_outcome : Progress → Outcome ℕ → Answered
+  evaluated_outcome p (Gives values state) = outcome (state_session state) (Values values) (evaluated_to p (here state) state)
+  evaluated_outcome p (Stops stop origin state) = outcome (state_session state) (Stopped stop origin.inside) (evaluated_to p origin state)
   evaluated_outcome p Unknown = at_once (Stopped Depth None)
 
-  abbrev pub core_outcome : Core → Progress → Option Fault → Outcome
+  abbrev pub core_outcome : Core → Progress → Option Fault → Answered
   core_outcome f p (Some fault) = outcome (with_symbols p) (Refused (Thread fault)) p
   core_outcome f p None =
-      evaluated_outcome p (checked s.standing.world s.standing.packages k.steps k.depth f (live s.objects) (begun p.symbols s.objects p.calls))
+      evaluated_outcome p (checked s.standing.world s.standing.packages k.steps k.depth f (live s.stobjs) (begun p.symbols s.stobjs p.calls))
 
-  abbrev pub expanded_outcome : Expanded Core → Outcome
-  expanded_outcome (Makes f p) = core_outcome f p (expression_fault s.standing.world (live_scope s.objects) f)
+  abbrev pub expanded_outcome : Expanded Core → Answered
+  expanded_outcome (Makes f p) = core_outcome f p (expression_fault s.standing.world (live_scope s.stobjs) f)
   expanded_outcome (Fails fault p) = outcome (with_symbols p) (Refused (Expand fault)) p
 
   -- ---- `:SHOW` and `:CELLS`
 
   -- the list of a live object
-  abbrev pub live_list : ℕ → Option (ObjectList ℕ)
-  live_list x = lookup (nat_eq x) s.objects
+  abbrev pub live_list : ℕ → Option (StobjList ℕ)
+  live_list x = lookup (nat_eq x) s.stobjs
 
-  abbrev pub all_cells : Objects ℕ → ℕ
+  abbrev pub all_cells : Stobjs ℕ → ℕ
   all_cells [] = 0
   all_cells (o ∷ os) = held_cells s.symbols o.1 + all_cells os
 
   -- ---- all commands
 
-  abbrev pub ways : Ways Outcome
+  abbrev pub ways : Ways Answered
   ways = record {
     event = λ head d. event_outcome (admitted s.standing k head d (at_start s.symbols));
     skipped = at_once Skipped;
     refused = λ r. at_once (Refused r);
     expression = λ form. expanded_outcome (expanded (setting s.standing k) form (at_start s.symbols));
     show = λ x. option_map (λ l. at_once (Show (shown s.symbols l))) (live_list x);
-    cells = at_once (Cells (all_cells s.objects));
+    cells = at_once (Cells (all_cells s.stobjs));
   }
 
-  unfoldable pub command : Object ℕ → Outcome
+  unfoldable pub command : Object ℕ → Answered
   command form = way_of ways s.symbols form

@@ -10,10 +10,10 @@ use Rattle.model_terms.specs.Faults.{Fault}
 use Rattle.model_eval.specs.Outcomes.{Shown, Plain, Stobj, Stop, Guard, Steps, Depth, Range, Large, Symbols}
 use Rattle.model_expansion.specs.Forms.{list, name_of}
 use Rattle.model_expansion.specs.Faults.{ExpandFault, MacroArgs, BadShape, MacroStopped, UnknownFunction, Arity, TooNested, Refusal, NameInUse, BadName, DuplicateFormal, BadDeclare, BadType, BadInitial, CongruenceMismatch, UnknownPackage, PackageExists, ImportClash, SymbolLimit, NotSupported, Thread, Expand, FoundationNotConcrete, MissingFunction, SignatureMismatch, GuardNotExecutable, TooLarge}
-use Rattle.model_stobjs.specs.Obligations.{Obligation}
+use Rattle.model_stobjs.specs.Obligations.{Obligation, obligation_form}
 use Rattle.model_events.specs.Events.{Said, Name, Names, PackageName, Obliged}
 use Rattle.model_books.specs.Opening.{Session}
-use Rattle.model_books.specs.Commands.{Answered, Event, Skipped, Values, Show, Cells, Refused, Stopped}
+use Rattle.model_books.specs.Commands.{Answer, Event, Skipped, Values, Show, Cells, Refused, Stopped}
 
 abbrev pub Bytes : Type 0
 Bytes = List ℕ
@@ -123,7 +123,7 @@ module _ (s : Session) where
   -- ---- events
 
   abbrev pub obligation_text : Obligation → Bytes
-  obligation_text o = o.name ++ (codes ": " ++ printed o.form)
+  obligation_text o = o.name ++ (codes ": " ++ printed (obligation_form o))
 
   abbrev pub said_lines : Said → List Bytes
   said_lines (Name x) = printed_name x ∷ []
@@ -132,7 +132,7 @@ module _ (s : Session) where
   said_lines (Obliged x os) = printed_name x ∷ map obligation_text os
 
   -- the lines of an answer, in the session after the command
-  unfoldable pub answer_lines : Answered ℕ → List Bytes
+  unfoldable pub answer_lines : Answer ℕ → List Bytes
   answer_lines (Event said) = said_lines said
   answer_lines Skipped = codes "Skipped" ∷ []
   answer_lines (Values values) = values_text values ∷ []
@@ -142,7 +142,7 @@ module _ (s : Session) where
   answer_lines (Stopped stop inside) = stop_text stop inside ∷ []
 
 -- a command that was refused or stopped
-abbrev pub is_error : {S : Type 0} → Answered S → Bool
+abbrev pub is_error : {S : Type 0} → Answer S → Bool
 is_error (Event said) = false
 is_error Skipped = false
 is_error (Values values) = false

@@ -6,7 +6,7 @@ use Rattle.model_symbols.specs.Symbols.{QualifiedName, symbol_at}
 use Rattle.model_symbols.specs.Opening.{opening}
 use Rattle.model_prims.specs.Rows.{Row, table, exported_symbols, main_symbols}
 use Rattle.model_terms.specs.Worlds.{World, Definition, Primitive, Constant}
-use Rattle.model_eval.specs.Outcomes.{Objects}
+use Rattle.model_eval.specs.Outcomes.{Stobjs}
 use Rattle.model_expansion.specs.Words.{exports_word, main_symbols_word}
 use Rattle.model_expansion.specs.Forms.{list}
 use Rattle.model_events.specs.Events.{Standing}
@@ -15,7 +15,7 @@ use Rattle.model_events.specs.Events.{Standing}
 pub record Session : Type 0 where
   pub standing : Standing
   pub symbols : List QualifiedName
-  pub objects : Objects ℕ
+  pub stobjs : Stobjs ℕ
 
 -- ---- primitives
 
@@ -58,7 +58,7 @@ unfoldable pub opening_session : Session
 opening_session = record {
   standing = record { world = opening_world; packages = opening.packages; current = first_package };
   symbols = opening.symbols;
-  objects = [];
+  stobjs = [];
 }
 
 -- ---- that the numbers are those of these symbols

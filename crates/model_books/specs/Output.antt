@@ -10,7 +10,7 @@ use Rattle.model_text.specs.declared.TextCause.TheVariants.{StrayClose, BadDot, 
 use Rattle.model_text.specs.Next.{Next, Stands, Nothing, End, Faulty, next_at}
 use Rattle.model_events.specs.Events.{Limits}
 use Rattle.model_books.specs.Opening.{Session, opening_session}
-use Rattle.model_books.specs.Commands.{Outcome, command}
+use Rattle.model_books.specs.Commands.{Answered, command}
 use Rattle.model_books.specs.Lines.{Bytes, answer_lines, is_error}
 use Rattle.model_books.specs.ProgramWords.{Given, given, limits}
 use Rattle.model_books.specs.GeneratedBook.{generated_book}
@@ -27,7 +27,7 @@ no_totals = record { commands = 0; calls = 0; errors = 0 }
 abbrev pub one_if : Bool → ℕ
 one_if b = if b then 1 else 0
 
-abbrev pub counted : Totals → Outcome → Totals
+abbrev pub counted : Totals → Answered → Totals
 counted t o = record { commands = t.commands + 1; calls = t.calls + o.calls; errors = t.errors + one_if (is_error o.answer) }
 
 -- lines, each with the byte that ends it
@@ -76,7 +76,7 @@ abbrev pub numbered : List QualifiedName → Object QualifiedName → Object ℕ
 numbered symbols f = named (λ s. unwrap_or (number_of symbols s) 0) f
 
 -- what follows the command that stands first
-abbrev pub answered : Totals → (Session → Totals → Output) → Outcome → Output
+abbrev pub answered : Totals → (Session → Totals → Output) → Answered → Output
 answered t go o = before (lines (answer_lines o.session o.answer)) (go o.session (counted t o))
 
 abbrev pub next_answered : Limits → Session → Totals → (ℕ → Session → Totals → Output) → Next → Output

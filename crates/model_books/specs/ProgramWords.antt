@@ -23,7 +23,7 @@ abbrev pub default_steps : ℕ
 default_steps = 1000000
 
 abbrev pub most_depth : ℕ
-most_depth = 2048
+most_depth = 200000
 
 abbrev pub most_generated : ℕ
 most_generated = 1000000

@@ -10,6 +10,7 @@ pub mod RowCommaOutside
 pub mod RowCongruentObjects
 pub mod RowCongruentParents
 pub mod RowEmptyInput
+pub mod RowExportUndone
 pub mod RowFirstRules
 pub mod RowGuardViolation
 pub mod RowHashField

@@ -123,6 +123,16 @@ empty_input_written = lines (codes "; 0 commands, 0 calls, 0 errors" ∷ [])
 pub record EmptyInput : Type 0 where
   pub is_written : output ([]) empty_input_input ≡ record { bytes = empty_input_written; status = Done }
 
+-- export undone
+abbrev pub export_undone_input : List ℕ
+export_undone_input = lines (codes "(defstobj st$c (val$c :type integer :initially 0))" ∷ codes "(defun st$ap (x) (if (true-listp x) (if (equal (len x) 1) (integerp (car x)) 'nil) 'nil))" ∷ codes "(defun create-st$a () '(0))" ∷ codes "(defun val$a (x) (declare (xargs :guard (st$ap x))) (car x))" ∷ codes "(defun jump$a (v x) (declare (xargs :guard (st$ap x))) (update-nth 0 (ifix (car v)) x))" ∷ codes "(defun jump$c (v st$c) (declare (xargs :stobjs st$c)) (let ((st$c (update-val$c 7 st$c))) (update-val$c (ifix (car v)) st$c)))" ∷ codes "(defun-nx st$corr (st$c x) (equal st$c x))" ∷ codes "(defabsstobj st :exports (val jump))" ∷ codes "(jump '(5) st)" ∷ codes "(val st)" ∷ codes "(jump 6 st)" ∷ codes "(val st)" ∷ [])
+
+abbrev pub export_undone_written : List ℕ
+export_undone_written = lines (codes "ST$C" ∷ codes "ST$AP" ∷ codes "CREATE-ST$A" ∷ codes "VAL$A" ∷ codes "JUMP$A" ∷ codes "JUMP$C" ∷ codes "ST$CORR" ∷ codes "ST" ∷ codes "CREATE-ST{CORRESPONDENCE}: (ST$CORR (CREATE-ST$C) (CREATE-ST$A))" ∷ codes "CREATE-ST{PRESERVED}: (ST$AP (CREATE-ST$A))" ∷ codes "VAL{CORRESPONDENCE}: (IMPLIES (AND (ST$CORR ST$C ST) (ST$AP ST)) (EQUAL (VAL$A ST) (VAL$C ST$C)))" ∷ codes "JUMP{CORRESPONDENCE}: (IMPLIES (AND (ST$CORR ST$C ST) (ST$AP ST)) (ST$CORR (JUMP$C V ST$C) (JUMP$A V ST)))" ∷ codes "JUMP{PRESERVED}: (IMPLIES (AND (ST$AP ST) (ST$AP ST)) (ST$AP (JUMP$A V ST)))" ∷ codes "<st>" ∷ codes "5" ∷ codes "Guard violation: (CAR 6) inside JUMP" ∷ codes "5" ∷ codes "; 12 commands, 18 calls, 1 errors" ∷ [])
+
+pub record ExportUndone : Type 0 where
+  pub is_written : output ([]) export_undone_input ≡ record { bytes = export_undone_written; status = Errors }
+
 -- first rules
 abbrev pub first_rules_input : List ℕ
 first_rules_input = lines (codes "(defstobj st (pc :type integer :initially 0))" ∷ codes "(update-pc 5 st)" ∷ codes "(pc st)" ∷ codes "(mv st st)" ∷ codes "(update-pc 1 (update-pc 2 st))" ∷ codes "(foo 1)" ∷ [])

@@ -2,7 +2,7 @@
 //! tools/rows.py from the files in rows/.
 #![tactic(auto)]
 
-ghost use Rattle.model_books_rows.specs.Rows.{AbstractCaller, BadByte, BadDot, BadWords, CellsGivenBack, ChildAtAStop, ChildBoundTwice, ChildrenOfOneArray, CommaOutside, CongruentObjects, CongruentParents, EmptyInput, FirstRules, GuardViolation, HashField, HeldCells, Hexadecimal, IdentityAbstraction, InPackage, ListAtAStop, LiteralTooWide, LocalObject, NarrowestLiteral, NestingLimit, NestingLimitAlone, ObjectBoundBesideAValue, OneStepShort, OpenString, PackageOfItsOwn, Primitives, Ratio, Refusals, Resizing, StackMachine, StepsExactly, StoppedBetweenUpdates, StrayClose, ThreeCommands, TooDeep, Unfinished, UnknownPackage, UserMacro, ValueAndObject, WeightLimit, WidestInteger};
+ghost use Rattle.model_books_rows.specs.Rows.{AbstractCaller, BadByte, BadDot, BadWords, CellsGivenBack, ChildAtAStop, ChildBoundTwice, ChildrenOfOneArray, CommaOutside, CongruentObjects, CongruentParents, EmptyInput, ExportUndone, FirstRules, GuardViolation, HashField, HeldCells, Hexadecimal, IdentityAbstraction, InPackage, ListAtAStop, LiteralTooWide, LocalObject, NarrowestLiteral, NestingLimit, NestingLimitAlone, ObjectBoundBesideAValue, OneStepShort, OpenString, PackageOfItsOwn, Primitives, Ratio, Refusals, Resizing, StackMachine, StepsExactly, StoppedBetweenUpdates, StrayClose, ThreeCommands, TooDeep, Unfinished, UnknownPackage, UserMacro, ValueAndObject, WeightLimit, WidestInteger};
 
 /// The row `abstract_caller`.
 #[tactic(auto, using(crate::proofs::RowAbstractCaller::is_computed))]
@@ -74,6 +74,12 @@ pub fn congruent_parents()
 #[tactic(auto, using(crate::proofs::RowEmptyInput::is_computed))]
 pub fn empty_input()
     ensures { EmptyInput }
+{}
+
+/// The row `export_undone`.
+#[tactic(auto, using(crate::proofs::RowExportUndone::is_computed))]
+pub fn export_undone()
+    ensures { ExportUndone }
 {}
 
 /// The row `first_rules`.

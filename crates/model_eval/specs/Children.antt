@@ -1,21 +1,15 @@
 -- The children that a `STOBJ-LET` binds.
-use Rattle.std.specs.Prelude.{ℕ, List, [], ◌∷◌, ◌++◌, length, drop, Bool, true, false, ◌&&◌, ◌||◌, Option, Some, None, nat_eq, unwrap_or}
+use Rattle.std.specs.Prelude.{ℕ, List, [], ◌∷◌, ◌++◌, Bool, true, false, ◌&&◌, ◌||◌, Option, Some, None, nat_eq, unwrap_or}
 use Rattle.std.specs.List.{list_any}
 use Rattle.model_objects.specs.Object.{Object}
 use Rattle.model_prims.specs.Kinds.{SymbolKind, same_object}
 use Rattle.model_prims.specs.Numbers.{natural_of}
-use Rattle.model_lists.specs.Lists.{ObjectList, size, item, with_item}
+use Rattle.model_lists.specs.Lists.{StobjList, size, item, with_item}
 use Rattle.model_lists.specs.Generated.{is_index}
 use Rattle.model_terms.specs.Worlds.{Definition, Primitive, Defined, Macro, Constant, Concrete, Generated, Abstract, OfAbstract, Named, Signed}
-use Rattle.model_eval.specs.Outcomes.{Shown, Plain, Stobj, Objects, State, Ended, Gives, Stops, Unknown}
+use Rattle.model_eval.specs.Outcomes.{Shown, Plain, Stobj, Stobjs}
+pub use Rattle.model_eval.specs.Keeping.{Loan}
 use Rattle.model_eval.specs.Scopes.{list_of, with_list}
-
--- a child that is bound: its variable, and the field of its parent, with the index in an array of children
-pub record Loan (S : Type 0) : Type 0 where
-  pub child : ℕ
-  pub parent : ℕ
-  pub field : ℕ
-  pub index : Option (Object S)
 
 -- the field of which a function is one
 abbrev pub field_of : Option Definition → ℕ
@@ -32,20 +26,20 @@ field_of (Some (Named name formals)) = 0
 field_of (Some (Signed name formals signature executable)) = 0
 
 -- an index is one of the array of children
-abbrev pub is_reached : {S : Type 0} → Option (Object S) → ObjectList S → Bool
+abbrev pub is_reached : {S : Type 0} → Option (Object S) → StobjList S → Bool
 is_reached None field = true
 is_reached (Some i) field = is_index i (size field)
 
-abbrev pub child_in : {S : Type 0} → Option (Object S) → ObjectList S → ObjectList S
+abbrev pub child_in : {S : Type 0} → Option (Object S) → StobjList S → StobjList S
 child_in None field = field
 child_in (Some i) field = item (natural_of i) field
 
-abbrev pub with_child_in : {S : Type 0} → Option (Object S) → ObjectList S → ObjectList S → ObjectList S
+abbrev pub with_child_in : {S : Type 0} → Option (Object S) → StobjList S → StobjList S → StobjList S
 with_child_in None child field = child
 with_child_in (Some i) child field = with_item (natural_of i) child field
 
 -- the parent's list with another child
-abbrev pub with_child : {S : Type 0} → Loan S → ObjectList S → ObjectList S → ObjectList S
+abbrev pub with_child : {S : Type 0} → Loan S → StobjList S → StobjList S → StobjList S
 with_child loan child parent = with_item loan.field (with_child_in loan.index child (item loan.field parent)) parent
 
 -- ---- the indices
@@ -75,24 +69,10 @@ are_twins k (l ∷ ls) = list_any (λ (m : Loan _). nat_eq l.field m.field && sa
 
 -- ---- lending and returning
 
-abbrev pub lent : {S : Type 0} → List (Loan S) → Objects S → Objects S
-lent [] objects = []
-lent (l ∷ ls) objects = (l.child, child_in l.index (item l.field (list_of objects l.parent))) ∷ lent ls objects
+abbrev pub lent : {S : Type 0} → List (Loan S) → Stobjs S → Stobjs S
+lent [] stobjs = []
+lent (l ∷ ls) stobjs = (l.child, child_in l.index (item l.field (list_of stobjs l.parent))) ∷ lent ls stobjs
 
 -- the child's list is put into its parent's
-abbrev pub put_into_parent : {S : Type 0} → Loan S → Objects S → Objects S
-put_into_parent loan objects = with_list loan.parent (with_child loan (list_of objects loan.child) (list_of objects loan.parent)) objects
-
-abbrev pub all_put : {S : Type 0} → List (Loan S) → Objects S → Objects S
-all_put [] objects = objects
-all_put (l ∷ ls) objects = all_put ls (put_into_parent l objects)
-
--- the state without the innermost objects, so many
-abbrev pub without_innermost : {S : Type 0} → ℕ → State S → State S
-without_innermost n state = record state { objects = drop n state.objects }
-
--- after a stop each child's list is in its parent, and after values those are that were put there
-abbrev pub returned : {S : Type 0} → List (Loan S) → Ended S → Ended S
-returned loans (Gives values state) = Gives values (without_innermost (length loans) state)
-returned loans (Stops stop inside state) = Stops stop inside (without_innermost (length loans) (record state { objects = all_put loans state.objects }))
-returned loans Unknown = Unknown
+abbrev pub put_into_parent : {S : Type 0} → Loan S → Stobjs S → Stobjs S
+put_into_parent loan stobjs = with_list loan.parent (with_child loan (list_of stobjs loan.child) (list_of stobjs loan.parent)) stobjs

@@ -1,89 +1,99 @@
--- Evaluation of core forms on lists, by recursion on how many more forms may be open. What checked and abstract evaluation
--- do in different ways stands in a record of rules.
+-- Evaluation of core forms, by recursion on how many more forms may be open. In which way the objects are kept is given, and
+-- what checked and abstract evaluation do in different ways stands in a record of rules.
 use Rattle.std.specs.Prelude.{ℕ, zero, suc, List, [], ◌∷◌, ◌++◌, map, Bool, true, Option, Some, None, nat_eq, if◌then◌else◌}
 use Rattle.std.specs.List.{list_any}
 use Rattle.model_objects.specs.Object.{Object}
 use Rattle.model_prims.specs.Kinds.{SymbolKind, truth_of, is_nil}
 use Rattle.model_prims.specs.declared.prim.Prim.{Prim}
-use Rattle.model_lists.specs.Lists.{ObjectList, item}
+use Rattle.model_lists.specs.Lists.{StobjList, item}
 use Rattle.model_terms.specs.Cores.{Core, Cores, Reached, Var, Const, If, Let, Mv, MvLet, StobjLet, WithLocal, MustBeEqual, Call, none, more, reached}
 use Rattle.model_terms.specs.Worlds.{World, Definition, FunctionOfAbstract, definition, Primitive, Defined, Macro, Constant, Concrete, Generated, Abstract, OfAbstract, Named, Signed}
 use Rattle.model_terms.specs.declared.role.AbstractRole.{AbstractRole}
 use Rattle.model_terms.specs.declared.role.AbstractRole.TheVariants as abstract_role
-use Rattle.model_eval.specs.Outcomes.{Shown, Plain, Stobj, Guard, Depth, State, Ended, Gives, Stops, Unknown, then_with, with_state, counting}
-use Rattle.model_eval.specs.Scopes.{Variables, nothing, variable_in, bound, object_of, single, plain, list_of, inner_variables, inner_state, back}
-use Rattle.model_eval.specs.Worlds.{object_layout}
+use Rattle.model_eval.specs.Outcomes.{Shown, Plain, Stobj, Stobjs, Guard, Depth, StateOf, OutcomeOf, Gives, Unknown, then_with, with_state, stops_here, cut_at, counting}
+use Rattle.model_eval.specs.Keeping.{Loan, Keeping, entering, handed, taken_back, unmaking}
+use Rattle.model_eval.specs.Scopes.{Variables, nothing, variable_in, bound, object_of, single, plain, inner_variables}
+use Rattle.model_eval.specs.Worlds.{stobj_layout}
 use Rattle.model_eval.specs.Generated.{generated}
-use Rattle.model_eval.specs.Children.{Loan, field_of, is_reached, loan_values, indices, are_twins, lent, put_into_parent, without_innermost, returned}
+use Rattle.model_eval.specs.Children.{field_of, is_reached, loan_values, indices, are_twins}
+use Rattle.model_eval.specs.ListsKeeping.{lists_keeping}
 
-pub record Rules (S : Type 0) : Type 0 where
+pub record RulesOf {S O B : Type 0} (keeping : Keeping S O B) : Type 0 where
   pub world : World
   pub limit : ℕ  -- the most calls
   pub kind : SymbolKind S
   pub see : Object ℕ → Object S  -- a constant of the world
-  pub primitive : ℕ → Prim → List (Shown S) → State S → Ended S  -- a primitive, with its name
-  pub fresh : ℕ → Option (ObjectList S)  -- the list of a new object of this name
-  -- an export, its guard having held; the last argument calls its exec function
-  pub export : FunctionOfAbstract → List (Shown S) → (State S → Ended S) → State S → Ended S
+  pub primitive : ℕ → Prim → List (Shown S) → StateOf O → OutcomeOf S O  -- a primitive, with its name
+  pub fresh : ℕ → Option (StobjList S)  -- the list of a new object of this name
+  -- an export, its guard having held: its actuals, what its call left behind, and what calls its exec function
+  pub export : FunctionOfAbstract → List (Shown S) → B → (StateOf O → OutcomeOf S O) → StateOf O → OutcomeOf S O
 
 -- what evaluates a form
+abbrev pub EvaluatorOf : Type 0 → Type 0 → Type 0
+EvaluatorOf S O = Core → Variables S → StateOf O → OutcomeOf S O
+
+-- the same where objects are kept as lists
+abbrev pub Rules : Type 0 → Type 0
+Rules S = RulesOf (lists_keeping {S = S})
+
 abbrev pub Evaluator : Type 0 → Type 0
-Evaluator S = Core → Variables S → State S → Ended S
+Evaluator S = EvaluatorOf S (Stobjs S)
 
 -- the symbol that names what stops for two equal indices
 abbrev pub stobj_let_word : ℕ
 stobj_let_word = 121
 
-module _ {S : Type 0} (r : Rules S) where
+module _ {S O B : Type 0} {keeping : Keeping S O B} (r : RulesOf keeping) where
   abbrev pub is_false : List (Shown S) → Bool
   is_false values = is_nil r.kind (object_of r.kind (single r.kind values))
 
   -- ---- calls
 
   -- a function's guard or body, over its formals
-  abbrev pub scoped : Evaluator S → List ℕ → List (Shown S) → Core → State S → Ended S
+  abbrev pub scoped : EvaluatorOf S O → List ℕ → List (Shown S) → Core → StateOf O → OutcomeOf S O
   scoped ev formals values form state =
-      back formals values state (ev form (inner_variables formals values) (inner_state formals values state))
+      handed keeping formals values (keeping.behind state.stobjs) (ev form (inner_variables formals values) (entering keeping formals values state))
 
-  abbrev pub guarded : Evaluator S → ℕ → List ℕ → Core → List (Shown S) → (State S → Ended S) → State S → Ended S
+  abbrev pub guarded : EvaluatorOf S O → ℕ → List ℕ → Core → List (Shown S) → (StateOf O → OutcomeOf S O) → StateOf O → OutcomeOf S O
   guarded ev name formals guard values go state =
-      then_with (scoped ev formals values guard state) (λ test after. if is_false test then Stops (Guard name values) None after else go after)
+      then_with (scoped ev formals values guard state) (λ test after. if is_false test then stops_here (Guard name values) after else go after)
 
   -- a function that does not stand, or may not be called
-  abbrev pub refused : ℕ → List (Shown S) → State S → Ended S
-  refused name values state = Stops (Guard name values) None state
+  abbrev pub refused : ℕ → List (Shown S) → StateOf O → OutcomeOf S O
+  refused name values state = stops_here (Guard name values) state
 
-  -- a function of an abstract object; `exec` calls a function that is none
-  abbrev pub of_abstract : Evaluator S → (ℕ → State S → Ended S) → FunctionOfAbstract → AbstractRole → List (Shown S) → State S → Ended S
+  -- a function of an abstract object, whose call was counted; `exec` calls a function that is none
+  abbrev pub of_abstract : EvaluatorOf S O → (ℕ → StateOf O → OutcomeOf S O) → FunctionOfAbstract → AbstractRole → List (Shown S) → StateOf O → OutcomeOf S O
   of_abstract ev exec f abstract_role.Recognizer values state = Gives (plain (truth_of r.kind true ∷ [])) state
   of_abstract ev exec f abstract_role.Creator values state = refused f.name values state
-  of_abstract ev exec f abstract_role.Export values state = guarded ev f.name f.formals f.guard values (r.export f values (exec f.exec)) state
+  of_abstract ev exec f abstract_role.Export values state =
+      cut_at state.outer (guarded ev f.name f.formals f.guard values (r.export f values (keeping.behind state.stobjs) (exec f.exec)) state)
 
   -- a call that was counted, by what the function is
-  abbrev pub by_definition : Evaluator S → (FunctionOfAbstract → State S → Ended S) → Option Definition → ℕ → List (Shown S) → State S → Ended S
+  abbrev pub by_definition : EvaluatorOf S O → (FunctionOfAbstract → StateOf O → OutcomeOf S O) → Option Definition → ℕ → List (Shown S) → StateOf O → OutcomeOf S O
   by_definition ev abstract None name values state = refused name values state
   by_definition ev abstract (Some (Primitive f row)) name values state = r.primitive f row.prim values state
   by_definition ev abstract (Some (Defined f)) name values state = guarded ev f.name f.formals f.guard values (scoped ev f.formals values f.body) state
   by_definition ev abstract (Some (Macro f formals body)) name values state = refused name values state
   by_definition ev abstract (Some (Constant f value)) name values state = refused name values state
   by_definition ev abstract (Some (Concrete d class)) name values state = refused name values state
-  by_definition ev abstract (Some (Generated g)) name values state = generated r.kind g (object_layout r.see r.world g.object) values state
+  by_definition ev abstract (Some (Generated g)) name values state = generated keeping r.kind g (stobj_layout r.see r.world g.object) values state
   by_definition ev abstract (Some (Abstract d)) name values state = refused name values state
   by_definition ev abstract (Some (OfAbstract f)) name values state = abstract f state
   by_definition ev abstract (Some (Named f formals)) name values state = refused name values state
   by_definition ev abstract (Some (Signed f formals signature executable)) name values state = refused name values state
 
   -- an exec function, which is no function of an abstract object
-  unfoldable pub exec_called : Evaluator S → List (Shown S) → ℕ → State S → Ended S
+  unfoldable pub exec_called : EvaluatorOf S O → List (Shown S) → ℕ → StateOf O → OutcomeOf S O
   exec_called ev values name state = by_definition ev (λ f after. refused name values after) (definition r.world name) name values state
 
-  unfoldable pub called : Evaluator S → ℕ → List (Shown S) → State S → Ended S
+  unfoldable pub called : EvaluatorOf S O → ℕ → List (Shown S) → StateOf O → OutcomeOf S O
   called ev name values state =
       counting r.limit state (by_definition ev (λ f after. of_abstract ev (exec_called ev values) f f.role values after) (definition r.world name) name values)
 
   -- ---- parts in order
 
-  unfoldable pub in_order : Evaluator S → Cores → Variables S → List (Shown S) → (List (Shown S) → State S → Ended S) → State S → Ended S
+  unfoldable pub in_order : EvaluatorOf S O → Cores → Variables S → List (Shown S) → (List (Shown S) → StateOf O → OutcomeOf S O) → StateOf O → OutcomeOf S O
   in_order ev none variables done go state = go done state
   in_order ev (more form forms) variables done go state =
       then_with (ev form variables state) (λ values after. in_order ev forms variables (done ++ single r.kind values ∷ []) go after)
@@ -122,64 +132,64 @@ module _ {S : Type 0} (r : Rules S) where
   }
 
   -- an accessor's call
-  abbrev pub borrowing : ℕ → Loan S → (State S → Ended S) → State S → Ended S
+  abbrev pub borrowing : ℕ → Loan S → (StateOf O → OutcomeOf S O) → StateOf O → OutcomeOf S O
   borrowing accessor loan go state =
-      if is_reached loan.index (item loan.field (list_of state.objects loan.parent)) then go state else Stops (Guard accessor (loan_values loan)) None state
+      if is_reached loan.index (item loan.field (keeping.read state.stobjs loan.parent)) then go state else stops_here (Guard accessor (loan_values loan)) state
 
   -- the parent is the object that its variable is
-  abbrev pub borrowed_from : ℕ → Reached → Shown S → Variables S → (Loan S → State S → Ended S) → State S → Ended S
-  borrowed_from child by (Plain o) variables go state = Stops Depth None state
+  abbrev pub borrowed_from : ℕ → Reached → Shown S → Variables S → (Loan S → StateOf O → OutcomeOf S O) → StateOf O → OutcomeOf S O
+  borrowed_from child by (Plain o) variables go state = stops_here Depth state
   borrowed_from child by (Stobj p) variables go state =
       let loan = loan_of child p by variables in counting r.limit state (borrowing by.accessor loan (go loan))
 
-  abbrev pub borrowed : ℕ → Option Reached → Variables S → (Loan S → State S → Ended S) → State S → Ended S
-  borrowed child None variables go state = Stops Depth None state
+  abbrev pub borrowed : ℕ → Option Reached → Variables S → (Loan S → StateOf O → OutcomeOf S O) → StateOf O → OutcomeOf S O
+  borrowed child None variables go state = stops_here Depth state
   borrowed child (Some by) variables go state = borrowed_from child by (variable_in r.kind variables by.parent) variables go state
 
   -- the bindings in order
-  unfoldable pub all_borrowed : List ℕ → Cores → Variables S → List (Loan S) → (List (Loan S) → State S → Ended S) → State S → Ended S
+  unfoldable pub all_borrowed : List ℕ → Cores → Variables S → List (Loan S) → (List (Loan S) → StateOf O → OutcomeOf S O) → StateOf O → OutcomeOf S O
   all_borrowed names none variables loans go state = go loans state
   all_borrowed [] (more form forms) variables loans go state = go loans state
   all_borrowed (x ∷ xs) (more form forms) variables loans go state =
       borrowed x (reached form) variables (λ loan after. all_borrowed xs forms variables (loans ++ loan ∷ []) go after) state
 
   -- the children among the variables are put back, in the order of the bindings, a call each
-  unfoldable pub put_back : List ℕ → List (Loan S) → (State S → Ended S) → State S → Ended S
+  unfoldable pub put_back : List ℕ → List (Loan S) → (StateOf O → OutcomeOf S O) → StateOf O → OutcomeOf S O
   put_back vars [] go state = go state
   put_back vars (l ∷ ls) go state =
       if list_any (nat_eq l.child) vars
-      then counting r.limit state (λ after. put_back vars ls go (record after { objects = put_into_parent l after.objects }))
+      then counting r.limit state (λ after. put_back vars ls go (record after { stobjs = keeping.put l after.stobjs }))
       else put_back vars ls go state
 
-  abbrev pub lending : List (Loan S) → State S → State S
-  lending loans state = record state { objects = lent loans state.objects ++ state.objects }
+  abbrev pub lending : List (Loan S) → StateOf O → StateOf O
+  lending loans state = record state { stobjs = keeping.lend loans state.stobjs }
 
   abbrev pub loaned_variables : List (Loan S) → Variables S → Variables S
   loaned_variables loans variables = map (λ (l : Loan S). (l.child, Stobj l.child)) loans ++ variables
 
   -- the producer with the children in scope, which are then given back
-  abbrev pub producing : Evaluator S → List ℕ → Core → Variables S → List (Loan S) → State S → Ended S
+  abbrev pub producing : EvaluatorOf S O → List ℕ → Core → Variables S → List (Loan S) → StateOf O → OutcomeOf S O
   producing ev vars producer variables loans state =
-      returned loans (then_with (ev producer (loaned_variables loans variables) (lending loans state)) (λ values after. put_back vars loans (Gives values) after))
+      taken_back keeping loans (then_with (ev producer (loaned_variables loans variables) (lending loans state)) (λ values after. put_back vars loans (Gives values) after))
 
-  abbrev pub with_loans : Evaluator S → List ℕ → Core → Core → Variables S → List (Loan S) → State S → Ended S
+  abbrev pub with_loans : EvaluatorOf S O → List ℕ → Core → Core → Variables S → List (Loan S) → StateOf O → OutcomeOf S O
   with_loans ev vars producer consumer variables loans state =
-      if are_twins r.kind loans then Stops (Guard stobj_let_word (indices loans)) None state
+      if are_twins r.kind loans then stops_here (Guard stobj_let_word (indices loans)) state
       else then_with (producing ev vars producer variables loans state) (λ values after. ev consumer (bound vars values variables) after)
 
   -- ---- local objects
 
   -- a form with a new object in scope, which is gone after it
-  abbrev pub with_fresh : Evaluator S → ℕ → Option (ObjectList S) → Core → Variables S → State S → Ended S
+  abbrev pub with_fresh : EvaluatorOf S O → ℕ → Option (StobjList S) → Core → Variables S → StateOf O → OutcomeOf S O
   with_fresh ev x None producer variables state = Unknown
   with_fresh ev x (Some l) producer variables state =
-      with_state (without_innermost 1) (ev producer ((x, Stobj x) ∷ variables) (record state { objects = (x, l) ∷ state.objects }))
+      with_state (unmaking keeping) (ev producer ((x, Stobj x) ∷ variables) (record state { stobjs = keeping.make x l state.stobjs }))
 
   -- ---- forms that are opened
 
-  abbrev pub opened : Evaluator S → Core → Variables S → State S → Ended S
-  opened ev (Var x) variables state = Stops Depth None state
-  opened ev (Const o) variables state = Stops Depth None state
+  abbrev pub opened : EvaluatorOf S O → Core → Variables S → StateOf O → OutcomeOf S O
+  opened ev (Var x) variables state = stops_here Depth state
+  opened ev (Const o) variables state = stops_here Depth state
   opened ev (If a b c) variables state =
       then_with (ev a variables state) (λ test after. ev (if is_false test then c else b) variables after)
   opened ev (Let names forms body) variables state =
@@ -195,11 +205,11 @@ module _ {S : Type 0} (r : Rules S) where
   opened ev (Call f actuals) variables state = in_order ev actuals variables [] (called ev f) state
 
   -- a variable or a constant has its value; another form is opened
-  abbrev pub leaf_or : Option (Shown S) → State S → Ended S → Ended S
+  abbrev pub leaf_or : Option (Shown S) → StateOf O → OutcomeOf S O → OutcomeOf S O
   leaf_or (Some v) state other = Gives (v ∷ []) state
   leaf_or None state other = other
 
   -- the outcome of a form where so many more forms may be open
-  unfoldable pub evaluated : ℕ → Evaluator S
-  evaluated zero form variables state = leaf_or (leaf form variables) state (Stops Depth None state)
+  unfoldable pub evaluated : ℕ → EvaluatorOf S O
+  evaluated zero form variables state = leaf_or (leaf form variables) state (stops_here Depth state)
   evaluated (suc d) form variables state = leaf_or (leaf form variables) state (opened (evaluated d) form variables state)

@@ -3,18 +3,19 @@ use Rattle.std.specs.Prelude.{ℕ, List, [], ◌∷◌, true, Option, Some, None
 use Rattle.model_objects.specs.Object.{Object}
 use Rattle.model_prims.specs.Kinds.{SymbolKind, truth_of}
 use Rattle.model_prims.specs.Applied.{argument}
-use Rattle.model_lists.specs.Lists.{ObjectList, End}
+use Rattle.model_lists.specs.Lists.{StobjList, End}
 use Rattle.model_lists.specs.Layouts.{Layout, field_layout, field_recognizes}
 use Rattle.model_lists.specs.Generated.{Effect, Refuses, Reads, Writes, reads, accessed, changed, measured, lengthened, hash_read, hash_bound, hash_looked_up, hash_put, hash_removed, hash_counted, hash_cleared}
 use Rattle.model_terms.specs.Worlds.{GeneratedFunction}
 use Rattle.model_terms.specs.declared.role.Role.{Role}
 use Rattle.model_terms.specs.declared.role.Role.TheVariants as role
-use Rattle.model_eval.specs.Outcomes.{Shown, Stobj, Objects, Guard, State, Ended, Gives, Stops}
-use Rattle.model_eval.specs.Scopes.{plain, ordinary, first_object, list_of, with_list}
+use Rattle.model_eval.specs.Outcomes.{Shown, Stobj, Guard, StateOf, OutcomeOf, Gives, stops_here}
+use Rattle.model_eval.specs.Keeping.{Keeping}
+use Rattle.model_eval.specs.Scopes.{plain, ordinary, first_stobj}
 
 module _ {S : Type 0} (k : SymbolKind S) where
   -- what a function does to the list of its object: of a field with this layout and number, or of the object itself
-  unfoldable pub effect : Role → Layout S → ℕ → List (Object S) → ObjectList S → Effect S
+  unfoldable pub effect : Role → Layout S → ℕ → List (Object S) → StobjList S → Effect S
   effect role.Recognizer layout f args l = reads k (truth_of k true)
   effect role.Creator layout f args l = Refuses
   effect role.FieldRecognizer layout f args l = reads k (truth_of k (field_recognizes k layout (argument k args 0)))
@@ -30,20 +31,21 @@ module _ {S : Type 0} (k : SymbolKind S) where
   effect role.HashCount layout f args l = hash_counted k f l
   effect role.HashClear layout f args l = hash_cleared k f l
 
+module _ {S O B : Type 0} (keeping : Keeping S O B) where
   -- the outcome of a function on the object that this variable names; without one nothing can be written
-  abbrev pub effected : ℕ → List (Shown S) → Option ℕ → State S → Effect S → Ended S
-  effected function values x state Refuses = Stops (Guard function values) None state
+  abbrev pub effected : ℕ → List (Shown S) → Option ℕ → StateOf O → Effect S → OutcomeOf S O
+  effected function values x state Refuses = stops_here (Guard function values) state
   effected function values x state (Reads os) = Gives (plain os) state
-  effected function values None state (Writes l) = Stops (Guard function values) None state
-  effected function values (Some x) state (Writes l) = Gives (Stobj x ∷ []) (record state { objects = with_list x l state.objects })
+  effected function values None state (Writes l) = stops_here (Guard function values) state
+  effected function values (Some x) state (Writes l) = Gives (Stobj x ∷ []) (record state { stobjs = keeping.write x l state.stobjs })
 
-  abbrev pub list_or_none : Objects S → Option ℕ → ObjectList S
-  list_or_none objects None = End
-  list_or_none objects (Some x) = list_of objects x
+  abbrev pub list_or_none : O → Option ℕ → StobjList S
+  list_or_none stobjs None = End
+  list_or_none stobjs (Some x) = keeping.read stobjs x
 
   -- a call; the layout is that of the function's object
-  abbrev pub generated : GeneratedFunction → Layout S → List (Shown S) → State S → Ended S
-  generated g layout values state =
+  abbrev pub generated : SymbolKind S → GeneratedFunction → Layout S → List (Shown S) → StateOf O → OutcomeOf S O
+  generated k g layout values state =
       let f = unwrap_or g.field 0 in
-      let x = first_object values in
-      effected g.name values x state (effect g.role (field_layout f layout) f (ordinary values) (list_or_none state.objects x))
+      let x = first_stobj values in
+      effected g.name values x state (effect k g.role (field_layout f layout) f (ordinary values) (list_or_none state.stobjs x))

@@ -1,10 +1,11 @@
 pub mod Outcomes
+pub mod Keeping
 pub mod Scopes
 pub mod Worlds
 pub mod Generated
 pub mod Children
+pub mod ListsKeeping
+pub mod PlacesKeeping
 pub mod Evaluated
 pub mod Checked
-pub mod LogicFunctions
-pub mod Logic
-pub mod AbstractRules
+pub mod InPlace

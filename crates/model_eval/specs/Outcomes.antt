@@ -1,8 +1,8 @@
 -- What an evaluation ends with.
-use Rattle.std.specs.Prelude.{ℕ, ◌+◌, List, Option, None, nat_lt, if◌then◌else◌}
+use Rattle.std.specs.Prelude.{ℕ, ◌+◌, List, Option, Some, None, nat_lt, if◌then◌else◌}
 use Rattle.model_objects.specs.Object.{Object}
 use Rattle.model_symbols.specs.Symbols.{QualifiedName}
-use Rattle.model_lists.specs.Lists.{ObjectList}
+use Rattle.model_lists.specs.Lists.{StobjList}
 
 -- what a form gives, and what a variable or a formal is
 pub data Shown (S : Type 0) : Type 0 where
@@ -19,37 +19,76 @@ pub data Stop (S : Type 0) : Type 0 where
   Symbols : ℕ → Stop S
 
 -- the list of each object in scope by its variable, the innermost first
-abbrev pub Objects : Type 0 → Type 0
-Objects S = List (ℕ × ObjectList S)
+abbrev pub Stobjs : Type 0 → Type 0
+Stobjs S = List (ℕ × StobjList S)
 
--- what is threaded through an evaluation
-pub record State (S : Type 0) : Type 0 where
-  pub objects : Objects S
+-- what is threaded through an evaluation; `O` is what the objects in scope are kept in
+pub record StateOf (O : Type 0) : Type 0 where
+  pub stobjs : O
   pub symbols : List QualifiedName
   -- the calls counted so far, and those of them that no export made
   pub calls : ℕ
   pub outer : ℕ
 
-pub data Ended (S : Type 0) : Type 0 where
-  Gives : List (Shown S) → State S → Ended S
-  Stops : Stop S → Option ℕ → State S → Ended S  -- also the outermost export that it came inside
-  Unknown : Ended S  -- no outcome, as a value of the logic does not end
+-- where a stop came from
+pub record Origin : Type 0 where
+  pub inside : Option ℕ  -- the outermost export that it came inside
+  -- the outer call, counted from 1, before which abstract evaluation is cut to have done as much: the call of the outermost
+  -- export that was under way, else the next one
+  pub cut : ℕ
+
+pub data OutcomeOf (S O : Type 0) : Type 0 where
+  Gives : List (Shown S) → StateOf O → OutcomeOf S O
+  Stops : Stop S → Origin → StateOf O → OutcomeOf S O
+  Unknown : OutcomeOf S O  -- no outcome, as a value of the logic does not end
+
+-- the same where each object is kept as its list
+abbrev pub State : Type 0 → Type 0
+State S = StateOf (Stobjs S)
+
+abbrev pub Outcome : Type 0 → Type 0
+Outcome S = OutcomeOf S (Stobjs S)
 
 -- what comes after values; a stop is the end
-abbrev pub then_with : {S : Type 0} → Ended S → (List (Shown S) → State S → Ended S) → Ended S
+abbrev pub then_with : {S O : Type 0} → OutcomeOf S O → (List (Shown S) → StateOf O → OutcomeOf S O) → OutcomeOf S O
 then_with (Gives values state) go = go values state
-then_with (Stops stop inside state) go = Stops stop inside state
+then_with (Stops stop origin state) go = Stops stop origin state
 then_with Unknown go = Unknown
 
 -- an outcome with another state
-abbrev pub with_state : {S : Type 0} → (State S → State S) → Ended S → Ended S
+abbrev pub with_state : {S O : Type 0} → (StateOf O → StateOf O) → OutcomeOf S O → OutcomeOf S O
 with_state change (Gives values state) = Gives values (change state)
-with_state change (Stops stop inside state) = Stops stop inside (change state)
+with_state change (Stops stop origin state) = Stops stop origin (change state)
 with_state change Unknown = Unknown
 
-abbrev pub one_more_call : {S : Type 0} → State S → State S
+-- ---- where stops come from
+
+-- no export is under way
+abbrev pub here : {O : Type 0} → StateOf O → Origin
+here state = record { inside = None; cut = state.outer + 1 }
+
+abbrev pub stops_here : {S O : Type 0} → Stop S → StateOf O → OutcomeOf S O
+stops_here stop state = Stops stop (here state) state
+
+-- the exec function of this export was running
+abbrev pub inside_of : ℕ → Origin → Origin
+inside_of export origin = record origin { inside = Some export }
+
+-- an export's call was under way that was the outer call of this number
+abbrev pub cut_before : ℕ → Origin → Origin
+cut_before n origin = record origin { cut = n }
+
+-- the outcome of such a call
+abbrev pub cut_at : {S O : Type 0} → ℕ → OutcomeOf S O → OutcomeOf S O
+cut_at n (Gives values state) = Gives values state
+cut_at n (Stops stop origin state) = Stops stop (cut_before n origin) state
+cut_at n Unknown = Unknown
+
+-- ---- calls
+
+abbrev pub one_more_call : {O : Type 0} → StateOf O → StateOf O
 one_more_call state = record state { calls = state.calls + 1; outer = state.outer + 1 }
 
 -- a call that is counted, and then the rest; no call passes the limit
-abbrev pub counting : {S : Type 0} → ℕ → State S → (State S → Ended S) → Ended S
-counting limit state go = if nat_lt state.calls limit then go (one_more_call state) else Stops Steps None state
+abbrev pub counting : {S O : Type 0} → ℕ → StateOf O → (StateOf O → OutcomeOf S O) → OutcomeOf S O
+counting limit state go = if nat_lt state.calls limit then go (one_more_call state) else stops_here Steps state

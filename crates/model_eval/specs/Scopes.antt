@@ -2,8 +2,9 @@
 use Rattle.std.specs.Prelude.{ℕ, List, [], ◌∷◌, map, Option, Some, None, nat_eq, if◌then◌else◌}
 use Rattle.model_objects.specs.Object.{Object}
 use Rattle.model_prims.specs.Kinds.{SymbolKind, nil_of}
-use Rattle.model_lists.specs.Lists.{ObjectList, End}
-use Rattle.model_eval.specs.Outcomes.{Shown, Plain, Stobj, Objects, State, Ended, Gives, Stops, Unknown}
+use Rattle.model_lists.specs.Lists.{StobjList, End}
+use Rattle.model_eval.specs.Outcomes.{Shown, Plain, Stobj, Stobjs}
+pub use Rattle.model_eval.specs.Keeping.{actual_for, outer_value}
 
 -- variables with what they are, the innermost first
 abbrev pub Variables : Type 0 → Type 0
@@ -46,18 +47,18 @@ ordinary (Plain o ∷ vs) = o ∷ ordinary vs
 ordinary (Stobj x ∷ vs) = ordinary vs
 
 -- the variable of the first object
-abbrev pub first_object : {S : Type 0} → List (Shown S) → Option ℕ
-first_object [] = None
-first_object (Plain o ∷ vs) = first_object vs
-first_object (Stobj x ∷ vs) = Some x
+abbrev pub first_stobj : {S : Type 0} → List (Shown S) → Option ℕ
+first_stobj [] = None
+first_stobj (Plain o ∷ vs) = first_stobj vs
+first_stobj (Stobj x ∷ vs) = Some x
 
 -- ---- lists of objects
 
-abbrev pub list_of : {S : Type 0} → Objects S → ℕ → ObjectList S
+abbrev pub list_of : {S : Type 0} → Stobjs S → ℕ → StobjList S
 list_of [] x = End
 list_of (o ∷ os) x = if nat_eq x o.0 then o.1 else list_of os x
 
-abbrev pub with_list : {S : Type 0} → ℕ → ObjectList S → Objects S → Objects S
+abbrev pub with_list : {S : Type 0} → ℕ → StobjList S → Stobjs S → Stobjs S
 with_list x l [] = []
 with_list x l (o ∷ os) = if nat_eq x o.0 then (o.0, l) ∷ os else o ∷ with_list x l os
 
@@ -71,40 +72,15 @@ inner_variables (x ∷ xs) (Plain o ∷ vs) = (x, Plain o) ∷ inner_variables x
 inner_variables (x ∷ xs) (Stobj y ∷ vs) = (x, Stobj x) ∷ inner_variables xs vs
 
 -- the objects that are handed over
-abbrev pub inner_objects : {S : Type 0} → List ℕ → List (Shown S) → Objects S → Objects S
-inner_objects [] actuals objects = []
-inner_objects (x ∷ xs) [] objects = []
-inner_objects (x ∷ xs) (Plain o ∷ vs) objects = inner_objects xs vs objects
-inner_objects (x ∷ xs) (Stobj y ∷ vs) objects = (x, list_of objects y) ∷ inner_objects xs vs objects
+abbrev pub inner_stobjs : {S : Type 0} → List ℕ → List (Shown S) → Stobjs S → Stobjs S
+inner_stobjs [] actuals stobjs = []
+inner_stobjs (x ∷ xs) [] stobjs = []
+inner_stobjs (x ∷ xs) (Plain o ∷ vs) stobjs = inner_stobjs xs vs stobjs
+inner_stobjs (x ∷ xs) (Stobj y ∷ vs) stobjs = (x, list_of stobjs y) ∷ inner_stobjs xs vs stobjs
 
 -- the lists of the formals are handed back to the variables of the actuals
-abbrev pub handed_back : {S : Type 0} → List ℕ → List (Shown S) → Objects S → Objects S → Objects S
-handed_back [] actuals inner objects = objects
-handed_back (x ∷ xs) [] inner objects = objects
-handed_back (x ∷ xs) (Plain o ∷ vs) inner objects = handed_back xs vs inner objects
-handed_back (x ∷ xs) (Stobj y ∷ vs) inner objects = handed_back xs vs inner (with_list y (list_of inner x) objects)
-
--- the variable of the actual for a formal
-abbrev pub actual_for : {S : Type 0} → List ℕ → List (Shown S) → ℕ → ℕ
-actual_for [] actuals x = x
-actual_for (y ∷ ys) [] x = x
-actual_for (y ∷ ys) (Plain o ∷ vs) x = actual_for ys vs x
-actual_for (y ∷ ys) (Stobj z ∷ vs) x = if nat_eq x y then z else actual_for ys vs x
-
-abbrev pub outer_value : {S : Type 0} → List ℕ → List (Shown S) → Shown S → Shown S
-outer_value formals actuals (Plain o) = Plain o
-outer_value formals actuals (Stobj x) = Stobj (actual_for formals actuals x)
-
--- the state of a call's guard or body
-abbrev pub inner_state : {S : Type 0} → List ℕ → List (Shown S) → State S → State S
-inner_state formals actuals state = record state { objects = inner_objects formals actuals state.objects }
-
--- the state after it
-abbrev pub outer_state : {S : Type 0} → List ℕ → List (Shown S) → State S → State S → State S
-outer_state formals actuals state inner = record inner { objects = handed_back formals actuals inner.objects state.objects }
-
--- the outcome of a call's guard or body, as the caller sees it
-abbrev pub back : {S : Type 0} → List ℕ → List (Shown S) → State S → Ended S → Ended S
-back formals actuals state (Gives values inner) = Gives (map (outer_value formals actuals) values) (outer_state formals actuals state inner)
-back formals actuals state (Stops stop inside inner) = Stops stop inside (outer_state formals actuals state inner)
-back formals actuals state Unknown = Unknown
+abbrev pub handed_back : {S : Type 0} → List ℕ → List (Shown S) → Stobjs S → Stobjs S → Stobjs S
+handed_back [] actuals inner stobjs = stobjs
+handed_back (x ∷ xs) [] inner stobjs = stobjs
+handed_back (x ∷ xs) (Plain o ∷ vs) inner stobjs = handed_back xs vs inner stobjs
+handed_back (x ∷ xs) (Stobj y ∷ vs) inner stobjs = handed_back xs vs inner (with_list y (list_of inner x) stobjs)

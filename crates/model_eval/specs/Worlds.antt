@@ -2,7 +2,8 @@
 use Rattle.std.specs.Prelude.{ℕ, zero, suc, List, [], ◌∷◌, Option, Some, None, unwrap_or}
 use Rattle.model_objects.specs.Object.{Object}
 use Rattle.model_lists.specs.Types.{ValueType, Anything, type_of}
-use Rattle.model_lists.specs.Layouts.{Layout, NoField}
+use Rattle.model_lists.specs.Lists.{StobjList}
+use Rattle.model_lists.specs.Layouts.{Layout, NoField, initial}
 use Rattle.model_lists.specs.Layouts as layout
 use Rattle.model_terms.specs.Worlds.{World, Definition, Descriptor, Shape, Field, definition, Primitive, Defined, Macro, Constant, Concrete, Generated, Abstract, OfAbstract, Named, Signed}
 use Rattle.model_terms.specs.Worlds as worlds
@@ -47,5 +48,9 @@ module _ {S : Type 0} (see : Object ℕ → Object S) where
   layout_within w (suc d) object = defined_layout (layout_within w d) (definition w object)
 
   -- the layout of an object of the world
-  abbrev pub object_layout : World → ℕ → Layout S
-  object_layout w object = layout_within w (suc most_nested) object
+  abbrev pub stobj_layout : World → ℕ → Layout S
+  stobj_layout w object = layout_within w (suc most_nested) object
+
+-- the list of a new object
+abbrev pub new_list : World → ℕ → StobjList ℕ
+new_list w x = initial (stobj_layout (λ (o : Object ℕ). o) w x)

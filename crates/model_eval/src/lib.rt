@@ -1,2 +1,2 @@
-//! Evaluation of core forms on lists: checked evaluation, its logic value, and the abstract evaluation. Definitions, and laws.
+//! Evaluation of core forms over a keeping of objects: as lists, and in place. Definitions.
 #![tactic(auto)]

@@ -2,71 +2,78 @@
 use Rattle.std.proofs.Common.{◌≡◌, ℕ, zero, suc, ◌≤◌, List, [], ◌∷◌, ◌++◌, Bool, true, false, Option, Some, None, refl, ap, arith, inl, inr}
 use Rattle.std.specs.Prelude.{nat_lt, nat_eq, if◌then◌else◌, ◌⊎◌}
 use Rattle.std.specs.List.{list_any}
-use Rattle.model_lists.specs.Lists.{ObjectList, item}
+use Rattle.model_lists.specs.Lists.{StobjList, item}
 use Rattle.model_terms.specs.Cores.{Core, Cores, Reached, Var, Const, If, Let, Mv, MvLet, StobjLet, WithLocal, MustBeEqual, Call, none, more, reached}
 use Rattle.model_terms.specs.Worlds.{World, Definition, FunctionOfAbstract, definition, Primitive, Defined, Macro, Constant, Concrete, Generated, Abstract, OfAbstract, Named, Signed}
 use Rattle.model_terms.specs.declared.role.AbstractRole.{AbstractRole}
 use Rattle.model_terms.specs.declared.role.AbstractRole.TheVariants as abstract_role
-use Rattle.model_eval.specs.Outcomes.{Shown, Plain, Stobj, Stop, Steps, Depth, State, Ended, Gives, Stops, Unknown, then_with, with_state, one_more_call, counting}
-use Rattle.model_eval.specs.Scopes.{Variables, variable_in, bound, single, inner_variables, inner_state, back, list_of}
-use Rattle.model_eval.specs.Worlds.{object_layout}
+use Rattle.model_eval.specs.Outcomes.{Shown, Plain, Stobj, Stop, Steps, Depth, State, Outcome, Gives, Stops, Unknown, then_with, with_state, cut_at, one_more_call, counting, stops_here, Stobjs}
+use Rattle.model_eval.specs.Scopes.{Variables, variable_in, bound, single, inner_variables, list_of}
+use Rattle.model_eval.specs.Worlds.{stobj_layout}
 use Rattle.model_eval.specs.Generated.{generated}
-use Rattle.model_eval.specs.Children.{Loan, is_reached, are_twins, put_into_parent, without_innermost, returned}
+use Rattle.model_eval.specs.Children.{Loan, is_reached, are_twins, put_into_parent}
+use Rattle.model_eval.specs.ListsKeeping.{lists_keeping, inner_state, back, without_innermost, returned}
 use Rattle.model_eval.specs.Evaluated.{Rules, Evaluator, is_false, scoped, guarded, refused, of_abstract, by_definition, exec_called, called, in_order, leaf, leaf_or, loan_of, borrowing, borrowed_from, borrowed, all_borrowed, put_back, lending, loaned_variables, producing, with_loans, with_fresh, opened, evaluated}
 use Rattle.model_eval_laws.specs.Agreement.{Agrees, ReachedStands, Closed, AllClosed, AllReached, ClosedDefinition}
 
 module _ {S : Type 0} (Excused : Stop S → Type 0) where
   -- ---- outcomes
 
-  pub agrees_same : (r : Ended S) → Agrees Excused r r
+  pub agrees_same : (r : Outcome S) → Agrees Excused r r
   agrees_same (Gives values state) = refl
-  agrees_same (Stops stop inside state) = inr refl
+  agrees_same (Stops stop origin state) = inr refl
   agrees_same Unknown = refl
 
-  agrees_then : (r s : Ended S) (go to : List (Shown S) → State S → Ended S) → Agrees Excused r s → ((values : List (Shown S)) (state : State S) → Agrees Excused (go values state) (to values state)) → Agrees Excused (then_with r go) (then_with s to)
+  agrees_then : (r s : Outcome S) (go to : List (Shown S) → State S → Outcome S) → Agrees Excused r s → ((values : List (Shown S)) (state : State S) → Agrees Excused (go values state) (to values state)) → Agrees Excused (then_with r go) (then_with s to)
   agrees_then (Gives values state) s go to e h = rw e (h values state)
-  agrees_then (Stops stop inside state) s go to (inl x) h = inl x
-  agrees_then (Stops stop inside state) s go to (inr e) h = inr (ap (λ y. then_with y to) e)
+  agrees_then (Stops stop origin state) s go to (inl x) h = inl x
+  agrees_then (Stops stop origin state) s go to (inr e) h = inr (ap (λ y. then_with y to) e)
   agrees_then Unknown s go to e h = ap (λ y. then_with y to) e
 
-  agrees_state : (change : State S → State S) (r s : Ended S) → Agrees Excused r s → Agrees Excused (with_state change r) (with_state change s)
+  agrees_state : (change : State S → State S) (r s : Outcome S) → Agrees Excused r s → Agrees Excused (with_state change r) (with_state change s)
   agrees_state change (Gives values state) s e = ap (with_state change) e
-  agrees_state change (Stops stop inside state) s (inl x) = inl x
-  agrees_state change (Stops stop inside state) s (inr e) = inr (ap (with_state change) e)
+  agrees_state change (Stops stop origin state) s (inl x) = inl x
+  agrees_state change (Stops stop origin state) s (inr e) = inr (ap (with_state change) e)
   agrees_state change Unknown s e = ap (with_state change) e
 
-  agrees_back : (formals : List ℕ) (actuals : List (Shown S)) (before : State S) (r s : Ended S) → Agrees Excused r s → Agrees Excused (back formals actuals before r) (back formals actuals before s)
+  agrees_back : (formals : List ℕ) (actuals : List (Shown S)) (before : State S) (r s : Outcome S) → Agrees Excused r s → Agrees Excused (back formals actuals before r) (back formals actuals before s)
   agrees_back formals actuals before (Gives values state) s e = ap (back formals actuals before) e
-  agrees_back formals actuals before (Stops stop inside state) s (inl x) = inl x
-  agrees_back formals actuals before (Stops stop inside state) s (inr e) = inr (ap (back formals actuals before) e)
+  agrees_back formals actuals before (Stops stop origin state) s (inl x) = inl x
+  agrees_back formals actuals before (Stops stop origin state) s (inr e) = inr (ap (back formals actuals before) e)
   agrees_back formals actuals before Unknown s e = ap (back formals actuals before) e
 
-  agrees_returned : (loans : List (Loan S)) (r s : Ended S) → Agrees Excused r s → Agrees Excused (returned loans r) (returned loans s)
+  agrees_returned : (loans : List (Loan S)) (r s : Outcome S) → Agrees Excused r s → Agrees Excused (returned loans r) (returned loans s)
   agrees_returned loans (Gives values state) s e = ap (returned loans) e
-  agrees_returned loans (Stops stop inside state) s (inl x) = inl x
-  agrees_returned loans (Stops stop inside state) s (inr e) = inr (ap (returned loans) e)
+  agrees_returned loans (Stops stop origin state) s (inl x) = inl x
+  agrees_returned loans (Stops stop origin state) s (inr e) = inr (ap (returned loans) e)
   agrees_returned loans Unknown s e = ap (returned loans) e
 
-  agrees_if : (b : Bool) (r s t u : Ended S) → Agrees Excused r t → Agrees Excused s u → Agrees Excused (if b then r else s) (if b then t else u)
+  agrees_cut : (n : ℕ) (r s : Outcome S) → Agrees Excused r s → Agrees Excused (cut_at n r) (cut_at n s)
+  agrees_cut n (Gives values state) s e = ap (cut_at n) e
+  agrees_cut n (Stops stop origin state) s (inl x) = inl x
+  agrees_cut n (Stops stop origin state) s (inr e) = inr (ap (cut_at n) e)
+  agrees_cut n Unknown s e = ap (cut_at n) e
+
+  agrees_if : (b : Bool) (r s t u : Outcome S) → Agrees Excused r t → Agrees Excused s u → Agrees Excused (if b then r else s) (if b then t else u)
   agrees_if true r s t u e f = e
   agrees_if false r s t u e f = f
 
   -- ---- rules
 
-  module _ (r : Rules S) (world : World) (limit : ℕ) (fresh : ℕ → Option (ObjectList S)) (export : FunctionOfAbstract → List (Shown S) → (State S → Ended S) → State S → Ended S) (Stands : ℕ → Type 0) where
+  module _ (r : Rules S) (world : World) (limit : ℕ) (fresh : ℕ → Option (StobjList S)) (export : FunctionOfAbstract → List (Shown S) → Stobjs S → (State S → Outcome S) → State S → Outcome S) (Stands : ℕ → Type 0) where
     abbrev pub later_rules : Rules S
     later_rules = record { world = world; limit = limit; kind = r.kind; see = r.see; primitive = r.primitive; fresh = fresh; export = export }
 
-    abbrev pub ToAgrees : (State S → Ended S) → (State S → Ended S) → Type 0
+    abbrev pub ToAgrees : (State S → Outcome S) → (State S → Outcome S) → Type 0
     ToAgrees go to = (state : State S) → Agrees Excused (go state) (to state)
 
     -- what the rules owe
     pub record Grows : Type 0 where
       pub definitions : (x : ℕ) → Stands x → definition world x ≡ definition r.world x
       pub closed : (x : ℕ) (d : Definition) → Stands x → definition r.world x ≡ Some d → ClosedDefinition Stands d
-      pub layouts : (x : ℕ) → Stands x → object_layout r.see world x ≡ object_layout r.see r.world x
+      pub layouts : (x : ℕ) → Stands x → stobj_layout r.see world x ≡ stobj_layout r.see r.world x
       pub freshly : (x : ℕ) → Stands x → fresh x ≡ r.fresh x
-      pub exports : (f : FunctionOfAbstract) (values : List (Shown S)) (go to : State S → Ended S) → ToAgrees go to → ToAgrees (r.export f values go) (export f values to)
+      pub exports : (f : FunctionOfAbstract) (values : List (Shown S)) (before : Stobjs S) (go to : State S → Outcome S) → ToAgrees go to → ToAgrees (r.export f values before go) (export f values before to)
       pub counted : (n : ℕ) → nat_lt n r.limit ≡ true → nat_lt n limit ≡ true
       pub uncounted : (n : ℕ) → nat_lt n r.limit ≡ false → Excused Steps ⊎ (nat_lt n limit ≡ false)
 
@@ -74,14 +81,14 @@ module _ {S : Type 0} (Excused : Stop S → Type 0) where
       abbrev EvAgrees : Evaluator S → Evaluator S → Type 0
       EvAgrees ev eu = (form : Core) (variables : Variables S) (state : State S) → Closed Stands form → Agrees Excused (ev form variables state) (eu form variables state)
 
-      agrees_counting : (state : State S) (go to : State S → Ended S) → ToAgrees go to → Agrees Excused (counting r.limit state go) (counting limit state to)
+      agrees_counting : (state : State S) (go to : State S → Outcome S) → ToAgrees go to → Agrees Excused (counting r.limit state go) (counting limit state to)
       agrees_counting state go to h = by_test (nat_lt state.calls r.limit) refl
         where
-          stopped : Excused Steps ⊎ (nat_lt state.calls limit ≡ false) → Agrees Excused (Stops Steps None state) (counting limit state to)
+          stopped : Excused Steps ⊎ (nat_lt state.calls limit ≡ false) → Agrees Excused (stops_here Steps state) (counting limit state to)
           stopped (inl x) = inl x
           stopped (inr e) = inr (rw e refl)
 
-          by_test : (b : Bool) → nat_lt state.calls r.limit ≡ b → Agrees Excused (if b then go (one_more_call state) else Stops Steps None state) (counting limit state to)
+          by_test : (b : Bool) → nat_lt state.calls r.limit ≡ b → Agrees Excused (if b then go (one_more_call state) else stops_here Steps state) (counting limit state to)
           by_test true e = rw (g.counted state.calls e) (h (one_more_call state))
           by_test false e = stopped (g.uncounted state.calls e)
 
@@ -91,18 +98,19 @@ module _ {S : Type 0} (Excused : Stop S → Type 0) where
       agrees_scoped ev eu formals values form h c state =
           agrees_back formals values state _ _ (h form (inner_variables formals values) (inner_state formals values state) c)
 
-      agrees_guarded : (ev eu : Evaluator S) (name : ℕ) (formals : List ℕ) (guard : Core) (values : List (Shown S)) (go to : State S → Ended S) → EvAgrees ev eu → Closed Stands guard → ToAgrees go to → ToAgrees (guarded r ev name formals guard values go) (guarded later_rules eu name formals guard values to)
+      agrees_guarded : (ev eu : Evaluator S) (name : ℕ) (formals : List ℕ) (guard : Core) (values : List (Shown S)) (go to : State S → Outcome S) → EvAgrees ev eu → Closed Stands guard → ToAgrees go to → ToAgrees (guarded r ev name formals guard values go) (guarded later_rules eu name formals guard values to)
       agrees_guarded ev eu name formals guard values go to h c k state =
           agrees_then _ _ _ _ (agrees_scoped ev eu formals values guard h c state)
           (λ test after. agrees_if (is_false r test) _ _ _ _ (inr refl) (k after))
 
-      agrees_abstract : (ev eu : Evaluator S) (exec to : ℕ → State S → Ended S) (f : FunctionOfAbstract) (role : AbstractRole) (values : List (Shown S)) → EvAgrees ev eu → Closed Stands f.guard → ToAgrees (exec f.exec) (to f.exec) → ToAgrees (of_abstract r ev exec f role values) (of_abstract later_rules eu to f role values)
+      agrees_abstract : (ev eu : Evaluator S) (exec to : ℕ → State S → Outcome S) (f : FunctionOfAbstract) (role : AbstractRole) (values : List (Shown S)) → EvAgrees ev eu → Closed Stands f.guard → ToAgrees (exec f.exec) (to f.exec) → ToAgrees (of_abstract r ev exec f role values) (of_abstract later_rules eu to f role values)
       agrees_abstract ev eu exec to f abstract_role.Recognizer values h c k state = refl
       agrees_abstract ev eu exec to f abstract_role.Creator values h c k state = inr refl
       agrees_abstract ev eu exec to f abstract_role.Export values h c k state =
-          agrees_guarded ev eu f.name f.formals f.guard values _ _ h c (g.exports f values (exec f.exec) (to f.exec) k) state
+          agrees_cut state.outer _ _
+          (agrees_guarded ev eu f.name f.formals f.guard values _ _ h c (g.exports f values state.stobjs (exec f.exec) (to f.exec) k) state)
 
-      agrees_definition : (ev eu : Evaluator S) (go to : FunctionOfAbstract → State S → Ended S) (d : Definition) (name : ℕ) (values : List (Shown S)) → EvAgrees ev eu → ClosedDefinition Stands d → ((f : FunctionOfAbstract) → Closed Stands f.guard × Stands f.exec → ToAgrees (go f) (to f)) → ToAgrees (by_definition r ev go (Some d) name values) (by_definition later_rules eu to (Some d) name values)
+      agrees_definition : (ev eu : Evaluator S) (go to : FunctionOfAbstract → State S → Outcome S) (d : Definition) (name : ℕ) (values : List (Shown S)) → EvAgrees ev eu → ClosedDefinition Stands d → ((f : FunctionOfAbstract) → Closed Stands f.guard × Stands f.exec → ToAgrees (go f) (to f)) → ToAgrees (by_definition r ev go (Some d) name values) (by_definition later_rules eu to (Some d) name values)
       agrees_definition ev eu go to (Primitive f row) name values h c k state = agrees_same (r.primitive f row.prim values state)
       agrees_definition ev eu go to (Defined f) name values h c k state =
           agrees_guarded ev eu f.name f.formals f.guard values _ _ h c.0 (agrees_scoped ev eu f.formals values f.body h c.1) state
@@ -110,14 +118,14 @@ module _ {S : Type 0} (Excused : Stop S → Type 0) where
       agrees_definition ev eu go to (Constant f value) name values h c k state = inr refl
       agrees_definition ev eu go to (Concrete d class) name values h c k state = inr refl
       agrees_definition ev eu go to (Generated f) name values h c k state =
-          rw (g.layouts f.object c) (agrees_same (generated r.kind f (object_layout r.see r.world f.object) values state))
+          rw (g.layouts f.object c) (agrees_same (generated lists_keeping r.kind f (stobj_layout r.see r.world f.object) values state))
       agrees_definition ev eu go to (Abstract d) name values h c k state = inr refl
       agrees_definition ev eu go to (OfAbstract f) name values h c k state = k f c state
       agrees_definition ev eu go to (Named f formals) name values h c k state = inr refl
       agrees_definition ev eu go to (Signed f formals signature executable) name values h c k state = inr refl
 
       -- by the definition of a name
-      agrees_named : (ev eu : Evaluator S) (go to : FunctionOfAbstract → State S → Ended S) (name : ℕ) (values : List (Shown S)) → EvAgrees ev eu → Stands name → ((f : FunctionOfAbstract) → Closed Stands f.guard × Stands f.exec → ToAgrees (go f) (to f)) → ToAgrees (by_definition r ev go (definition r.world name) name values) (by_definition later_rules eu to (definition world name) name values)
+      agrees_named : (ev eu : Evaluator S) (go to : FunctionOfAbstract → State S → Outcome S) (name : ℕ) (values : List (Shown S)) → EvAgrees ev eu → Stands name → ((f : FunctionOfAbstract) → Closed Stands f.guard × Stands f.exec → ToAgrees (go f) (to f)) → ToAgrees (by_definition r ev go (definition r.world name) name values) (by_definition later_rules eu to (definition world name) name values)
       agrees_named ev eu go to name values h s k state =
           rw (g.definitions name s) (by_entry (definition r.world name) refl)
         where
@@ -138,10 +146,10 @@ module _ {S : Type 0} (Excused : Stop S → Type 0) where
 
       -- ---- parts
 
-      abbrev GoAgrees : (List (Shown S) → State S → Ended S) → (List (Shown S) → State S → Ended S) → Type 0
+      abbrev GoAgrees : (List (Shown S) → State S → Outcome S) → (List (Shown S) → State S → Outcome S) → Type 0
       GoAgrees go to = (values : List (Shown S)) → ToAgrees (go values) (to values)
 
-      agrees_in_order : (ev eu : Evaluator S) (forms : Cores) (variables : Variables S) (done : List (Shown S)) (go to : List (Shown S) → State S → Ended S) → EvAgrees ev eu → AllClosed Stands forms → GoAgrees go to → ToAgrees (in_order r ev forms variables done go) (in_order later_rules eu forms variables done to)
+      agrees_in_order : (ev eu : Evaluator S) (forms : Cores) (variables : Variables S) (done : List (Shown S)) (go to : List (Shown S) → State S → Outcome S) → EvAgrees ev eu → AllClosed Stands forms → GoAgrees go to → ToAgrees (in_order r ev forms variables done go) (in_order later_rules eu forms variables done to)
       unfolding in_order
       agrees_in_order ev eu none variables done go to h c k state = k done state
       agrees_in_order ev eu (more form forms) variables done go to h c k state =
@@ -150,21 +158,21 @@ module _ {S : Type 0} (Excused : Stop S → Type 0) where
 
       -- ---- children
 
-      agrees_borrowing : (accessor : ℕ) (loan : Loan S) (go to : State S → Ended S) → ToAgrees go to → ToAgrees (borrowing r accessor loan go) (borrowing later_rules accessor loan to)
+      agrees_borrowing : (accessor : ℕ) (loan : Loan S) (go to : State S → Outcome S) → ToAgrees go to → ToAgrees (borrowing r accessor loan go) (borrowing later_rules accessor loan to)
       agrees_borrowing accessor loan go to k state =
-          agrees_if (is_reached loan.index (item loan.field (list_of state.objects loan.parent))) _ _ _ _ (k state) (inr refl)
+          agrees_if (is_reached loan.index (item loan.field (list_of state.stobjs loan.parent))) _ _ _ _ (k state) (inr refl)
 
-      agrees_borrowed_from : (child : ℕ) (by : Reached) (p : Shown S) (variables : Variables S) (go to : Loan S → State S → Ended S) → Stands by.accessor → ((loan : Loan S) → ToAgrees (go loan) (to loan)) → ToAgrees (borrowed_from r child by p variables go) (borrowed_from later_rules child by p variables to)
+      agrees_borrowed_from : (child : ℕ) (by : Reached) (p : Shown S) (variables : Variables S) (go to : Loan S → State S → Outcome S) → Stands by.accessor → ((loan : Loan S) → ToAgrees (go loan) (to loan)) → ToAgrees (borrowed_from r child by p variables go) (borrowed_from later_rules child by p variables to)
       agrees_borrowed_from child by (Plain o) variables go to c k state = inr refl
       agrees_borrowed_from child by (Stobj p) variables go to c k state =
           rw (g.definitions by.accessor c)
           (agrees_counting state _ _ (agrees_borrowing by.accessor (loan_of r child p by variables) _ _ (k (loan_of r child p by variables))))
 
-      agrees_borrowed : (child : ℕ) (by : Option Reached) (variables : Variables S) (go to : Loan S → State S → Ended S) → ReachedStands Stands by → ((loan : Loan S) → ToAgrees (go loan) (to loan)) → ToAgrees (borrowed r child by variables go) (borrowed later_rules child by variables to)
+      agrees_borrowed : (child : ℕ) (by : Option Reached) (variables : Variables S) (go to : Loan S → State S → Outcome S) → ReachedStands Stands by → ((loan : Loan S) → ToAgrees (go loan) (to loan)) → ToAgrees (borrowed r child by variables go) (borrowed later_rules child by variables to)
       agrees_borrowed child None variables go to c k state = inr refl
       agrees_borrowed child (Some by) variables go to c k state = agrees_borrowed_from child by (variable_in r.kind variables by.parent) variables go to c k state
 
-      agrees_all_borrowed : (names : List ℕ) (forms : Cores) (variables : Variables S) (loans : List (Loan S)) (go to : List (Loan S) → State S → Ended S) → AllReached Stands forms → ((ls : List (Loan S)) → ToAgrees (go ls) (to ls)) → ToAgrees (all_borrowed r names forms variables loans go) (all_borrowed later_rules names forms variables loans to)
+      agrees_all_borrowed : (names : List ℕ) (forms : Cores) (variables : Variables S) (loans : List (Loan S)) (go to : List (Loan S) → State S → Outcome S) → AllReached Stands forms → ((ls : List (Loan S)) → ToAgrees (go ls) (to ls)) → ToAgrees (all_borrowed r names forms variables loans go) (all_borrowed later_rules names forms variables loans to)
       unfolding all_borrowed
       agrees_all_borrowed names none variables loans go to c k state = k loans state
       agrees_all_borrowed [] (more form forms) variables loans go to c k state = k loans state
@@ -172,12 +180,12 @@ module _ {S : Type 0} (Excused : Stop S → Type 0) where
           agrees_borrowed x (reached form) variables _ _ c.0
           (λ loan after. agrees_all_borrowed xs forms variables (loans ++ loan ∷ []) go to c.1 k after) state
 
-      agrees_put_back : (vars : List ℕ) (loans : List (Loan S)) (go to : State S → Ended S) → ToAgrees go to → ToAgrees (put_back r vars loans go) (put_back later_rules vars loans to)
+      agrees_put_back : (vars : List ℕ) (loans : List (Loan S)) (go to : State S → Outcome S) → ToAgrees go to → ToAgrees (put_back r vars loans go) (put_back later_rules vars loans to)
       unfolding put_back
       agrees_put_back vars [] go to k state = k state
       agrees_put_back vars (l ∷ ls) go to k state =
           agrees_if (list_any (nat_eq l.child) vars) _ _ _ _
-          (agrees_counting state _ _ (λ after. agrees_put_back vars ls go to k (record after { objects = put_into_parent l after.objects })))
+          (agrees_counting state _ _ (λ after. agrees_put_back vars ls go to k (record after { stobjs = put_into_parent l after.stobjs })))
           (agrees_put_back vars ls go to k state)
 
       agrees_producing : (ev eu : Evaluator S) (vars : List ℕ) (producer : Core) (variables : Variables S) (loans : List (Loan S)) → EvAgrees ev eu → Closed Stands producer → ToAgrees (producing r ev vars producer variables loans) (producing later_rules eu vars producer variables loans)
@@ -193,7 +201,7 @@ module _ {S : Type 0} (Excused : Stop S → Type 0) where
 
       -- ---- local objects
 
-      agrees_fresh : (ev eu : Evaluator S) (x : ℕ) (l : Option (ObjectList S)) (producer : Core) (variables : Variables S) → EvAgrees ev eu → Closed Stands producer → ToAgrees (with_fresh r ev x l producer variables) (with_fresh later_rules eu x l producer variables)
+      agrees_fresh : (ev eu : Evaluator S) (x : ℕ) (l : Option (StobjList S)) (producer : Core) (variables : Variables S) → EvAgrees ev eu → Closed Stands producer → ToAgrees (with_fresh r ev x l producer variables) (with_fresh later_rules eu x l producer variables)
       agrees_fresh ev eu x None producer variables h c state = refl
       agrees_fresh ev eu x (Some l) producer variables h c state = agrees_state (without_innermost 1) _ _ (h producer _ _ c)
 
@@ -223,7 +231,7 @@ module _ {S : Type 0} (Excused : Stop S → Type 0) where
       agrees_opened ev eu h (Call f actuals) variables state c =
           agrees_in_order ev eu actuals variables [] _ _ h c.1 (λ values. agrees_called ev eu f values h c.0) state
 
-      agrees_leaf : (l : Option (Shown S)) (state : State S) (a b : Ended S) → Agrees Excused a b → Agrees Excused (leaf_or r l state a) (leaf_or later_rules l state b)
+      agrees_leaf : (l : Option (Shown S)) (state : State S) (a b : Outcome S) → Agrees Excused a b → Agrees Excused (leaf_or r l state a) (leaf_or later_rules l state b)
       agrees_leaf (Some v) state a b e = refl
       agrees_leaf None state a b e = e
 

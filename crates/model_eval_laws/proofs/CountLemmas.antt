@@ -13,11 +13,12 @@ use Rattle.model_prims.specs.Applied.{Applied, applied, applied_to, argument, bo
 use Rattle.model_prims.specs.Applied as prims
 use Rattle.model_prims.specs.declared.prim.Prim.{Prim}
 use Rattle.model_terms.specs.Worlds.{World, FunctionOfAbstract}
-use Rattle.model_eval.specs.Outcomes.{Shown, Steps, State, Ended, Gives, Stops, Unknown, one_more_call}
+use Rattle.model_eval.specs.Outcomes.{Shown, Steps, State, Outcome, Gives, Stops, Unknown, one_more_call, stops_here, Stobjs}
 use Rattle.model_eval.specs.Scopes.{ordinary}
-use Rattle.model_eval.specs.Checked.{checked_rules, checked_export, primitive_ended, inside}
+use Rattle.model_eval.specs.ListsKeeping.{lists_keeping}
+use Rattle.model_eval.specs.Checked.{checked_rules, checked_export, primitive_ended, inside_after}
 use Rattle.model_eval_laws.specs.Counting.{Grown, Counts, CountsCalls}
-use Rattle.model_eval_laws.proofs.Counts.{grown_same, GoCounts, not_less, RulesCount, counts_evaluated, stays_evaluated}
+use Rattle.model_eval_laws.proofs.Counts.{grown_same, grown_objects, GoCounts, not_less, RulesCount, counts_evaluated, stays_evaluated}
 
 -- ---- primitives
 
@@ -90,16 +91,16 @@ module _ (limit : ℕ) where
     symbols = g.symbols;
   }
 
-  counts_inside : (x : ℕ) (a : State ℕ) (r : Ended ℕ) → a.calls < limit → Counts limit (one_more_call a) r → Counts limit a (inside x a r)
-  counts_inside x a (Gives values s) l h = grown_inside a s l h
-  counts_inside x a (Stops stop within s) l h = (grown_inside a s l h.0, h.1)
-  counts_inside x a Unknown l h = h
+  counts_inside : (actuals : List (Shown ℕ)) (before : Stobjs ℕ) (x : ℕ) (a : State ℕ) (r : Outcome ℕ) → a.calls < limit → Counts limit (one_more_call a) r → Counts limit a (inside_after lists_keeping actuals before x a.outer r)
+  counts_inside actuals before x a (Gives values s) l h = grown_inside a s l h
+  counts_inside actuals before x a (Stops stop origin s) l h = (grown_objects limit a (record s { outer = a.outer }) a.stobjs _ (grown_inside a s l h.0), h.1)
+  counts_inside actuals before x a Unknown l h = h
 
-  pub counts_export : (f : FunctionOfAbstract) (values : List (Shown ℕ)) (go : State ℕ → Ended ℕ) → GoCounts limit go → GoCounts limit (checked_export limit f values go)
-  counts_export f values go h state = by_test (nat_lt state.calls limit) refl
+  pub counts_export : (f : FunctionOfAbstract) (values : List (Shown ℕ)) (before : Stobjs ℕ) (go : State ℕ → Outcome ℕ) → GoCounts limit go → GoCounts limit (checked_export lists_keeping limit f values before go)
+  counts_export f values before go h state = by_test (nat_lt state.calls limit) refl
     where
-      by_test : (b : Bool) → nat_lt state.calls limit ≡ b → Counts limit state (if b then inside f.name state (go (one_more_call state)) else Stops Steps None state)
-      by_test true e = counts_inside f.name state (go (one_more_call state)) (ltb-true state.calls limit e) (h (one_more_call state))
+      by_test : (b : Bool) → nat_lt state.calls limit ≡ b → Counts limit state (if b then inside_after lists_keeping values before f.name state.outer (go (one_more_call state)) else stops_here Steps state)
+      by_test true e = counts_inside values before f.name state (go (one_more_call state)) (ltb-true state.calls limit e) (h (one_more_call state))
       by_test false e = (grown_same limit state, λ q. not_less state.calls limit e)
 
 pub checked_count : (w : World) (packages : List Package) (k : ℕ) → RulesCount (checked_rules w packages k)

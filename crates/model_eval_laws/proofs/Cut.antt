@@ -3,19 +3,20 @@ use Rattle.std.proofs.Common.{◌≡◌, ℕ, zero, suc, ◌≤◌, List, [], �
 use Rattle.std.specs.Prelude.{nat_lt, nat_eq, if◌then◌else◌}
 use Rattle.std.specs.List.{list_any}
 use Rattle.std.proofs.lemmas.Bool.Decides.{nat_tests}
-use Rattle.model_lists.specs.Lists.{ObjectList, item}
+use Rattle.model_lists.specs.Lists.{StobjList, item}
 use Rattle.model_terms.specs.Cores.{Core, Cores, Reached, Var, Const, If, Let, Mv, MvLet, StobjLet, WithLocal, MustBeEqual, Call, none, more, reached}
 use Rattle.model_terms.specs.Worlds.{Definition, FunctionOfAbstract, definition, Primitive, Defined, Macro, Constant, Concrete, Generated, Abstract, OfAbstract, Named, Signed}
 use Rattle.model_terms.specs.declared.role.AbstractRole.{AbstractRole}
 use Rattle.model_terms.specs.declared.role.AbstractRole.TheVariants as abstract_role
-use Rattle.model_eval.specs.Outcomes.{Shown, Plain, Stobj, Stop, Guard, Steps, Objects, State, Ended, Gives, Stops, Unknown, then_with, with_state, one_more_call, counting}
-use Rattle.model_eval.specs.Scopes.{Variables, variable_in, bound, single, inner_variables, inner_state, outer_state, back, list_of}
-use Rattle.model_eval.specs.Children.{Loan, is_reached, loan_values, are_twins, put_into_parent, returned}
+use Rattle.model_eval.specs.Outcomes.{Shown, Plain, Stobj, Stop, Guard, Steps, Stobjs, State, Outcome, Gives, Stops, Unknown, then_with, with_state, cut_at, one_more_call, counting, stops_here}
+use Rattle.model_eval.specs.Scopes.{Variables, variable_in, bound, single, inner_variables, list_of}
+use Rattle.model_eval.specs.Children.{Loan, is_reached, loan_values, are_twins, put_into_parent}
+use Rattle.model_eval.specs.ListsKeeping.{inner_state, outer_state, back, returned}
 use Rattle.model_eval.specs.Evaluated.{Rules, Evaluator, is_false, scoped, guarded, of_abstract, by_definition, exec_called, called, in_order, leaf, leaf_or, loan_of, borrowing, borrowed_from, borrowed, all_borrowed, put_back, lending, loaned_variables, producing, with_loans, with_fresh, opened, evaluated}
 use Rattle.model_eval_laws.specs.Laws.{IsSteps}
 use Rattle.model_eval_laws.specs.Counting.{Counts}
 use Rattle.model_eval_laws.specs.Cutting.{Cuts}
-use Rattle.model_eval_laws.proofs.Counts.{grown_same, grown_objects, GoCounts, counts_then, counts_objects, counts_counting, RulesCount, counts_scoped, counts_abstract, counts_definition, counts_exec, counts_called, counts_in_order, counts_all_borrowed, counts_put_back, counts_with_loans, counts_fresh, counts_evaluated, counts_if}
+use Rattle.model_eval_laws.proofs.Counts.{grown_same, grown_objects, GoCounts, counts_cut, counts_then, counts_objects, counts_counting, RulesCount, counts_scoped, counts_abstract, counts_definition, counts_exec, counts_called, counts_in_order, counts_all_borrowed, counts_put_back, counts_with_loans, counts_fresh, counts_evaluated, counts_if}
 
 pub below_larger : (n k limit : ℕ) → k ≤ limit → nat_lt n k ≡ true → nat_lt n limit ≡ true
 below_larger n k limit h e = grind (arith, nat_tests)
@@ -23,71 +24,77 @@ below_larger n k limit h e = grind (arith, nat_tests)
 module _ {S : Type 0} (limit : ℕ) where
   -- ---- outcomes
 
-  pub cuts_same : (r : Ended S) → Cuts limit r r
+  pub cuts_same : (r : Outcome S) → Cuts limit r r
   cuts_same (Gives values state) = refl
-  cuts_same (Stops stop inside state) = inr refl
+  cuts_same (Stops stop origin state) = inr refl
   cuts_same Unknown = refl
 
-  cuts_then : (r s : Ended S) (go to : List (Shown S) → State S → Ended S) → Cuts limit r s → ((values : List (Shown S)) (state : State S) → Cuts limit (go values state) (to values state)) → ((values : List (Shown S)) → GoCounts limit (to values)) → Cuts limit (then_with r go) (then_with s to)
+  cuts_then : (r s : Outcome S) (go to : List (Shown S) → State S → Outcome S) → Cuts limit r s → ((values : List (Shown S)) (state : State S) → Cuts limit (go values state) (to values state)) → ((values : List (Shown S)) → GoCounts limit (to values)) → Cuts limit (then_with r go) (then_with s to)
   cuts_then (Gives values state) s go to e h c = rw e (h values state)
-  cuts_then (Stops stop inside state) s go to (inl x) h c = inl (x.0, counts_then limit state s to x.1 c)
-  cuts_then (Stops stop inside state) s go to (inr e) h c = inr (ap (λ y. then_with y to) e)
+  cuts_then (Stops stop origin state) s go to (inl x) h c = inl (x.0, counts_then limit state s to x.1 c)
+  cuts_then (Stops stop origin state) s go to (inr e) h c = inr (ap (λ y. then_with y to) e)
   cuts_then Unknown s go to e h c = ap (λ y. then_with y to) e
 
   -- the lists do not matter
-  counts_moved : (a : State S) (os : Objects S) (r : Ended S) (change : State S → Objects S) → Counts limit a r → Counts limit (record a { objects = os }) (with_state (λ s. record s { objects = change s }) r)
-  counts_moved a os (Gives values s) change h = grown_objects limit (record a { objects = os }) s a.objects (change s) h
-  counts_moved a os (Stops stop inside s) change h = (grown_objects limit (record a { objects = os }) s a.objects (change s) h.0, h.1)
+  counts_moved : (a : State S) (os : Stobjs S) (r : Outcome S) (change : State S → Stobjs S) → Counts limit a r → Counts limit (record a { stobjs = os }) (with_state (λ s. record s { stobjs = change s }) r)
+  counts_moved a os (Gives values s) change h = grown_objects limit (record a { stobjs = os }) s a.stobjs (change s) h
+  counts_moved a os (Stops stop origin s) change h = (grown_objects limit (record a { stobjs = os }) s a.stobjs (change s) h.0, h.1)
   counts_moved a os Unknown change h = h
 
-  cuts_state : (change : State S → Objects S) (r s : Ended S) → Cuts limit r s → Cuts limit (with_state (λ s. record s { objects = change s }) r) (with_state (λ s. record s { objects = change s }) s)
-  cuts_state change (Gives values state) s e = ap (with_state (λ s. record s { objects = change s })) e
-  cuts_state change (Stops stop inside state) s (inl x) = inl (x.0, counts_moved state (change state) s change x.1)
-  cuts_state change (Stops stop inside state) s (inr e) = inr (ap (with_state (λ s. record s { objects = change s })) e)
-  cuts_state change Unknown s e = ap (with_state (λ s. record s { objects = change s })) e
+  cuts_state : (change : State S → Stobjs S) (r s : Outcome S) → Cuts limit r s → Cuts limit (with_state (λ s. record s { stobjs = change s }) r) (with_state (λ s. record s { stobjs = change s }) s)
+  cuts_state change (Gives values state) s e = ap (with_state (λ s. record s { stobjs = change s })) e
+  cuts_state change (Stops stop origin state) s (inl x) = inl (x.0, counts_moved state (change state) s change x.1)
+  cuts_state change (Stops stop origin state) s (inr e) = inr (ap (with_state (λ s. record s { stobjs = change s })) e)
+  cuts_state change Unknown s e = ap (with_state (λ s. record s { stobjs = change s })) e
 
-  moved_back : (formals : List ℕ) (actuals : List (Shown S)) (before a : State S) (r : Ended S) → Counts limit a r → Counts limit (outer_state formals actuals before a) (back formals actuals before r)
-  moved_back formals actuals before a (Gives values s) h = grown_objects limit (outer_state formals actuals before a) s a.objects _ h
-  moved_back formals actuals before a (Stops stop inside s) h = (grown_objects limit (outer_state formals actuals before a) s a.objects _ h.0, h.1)
+  moved_back : (formals : List ℕ) (actuals : List (Shown S)) (before a : State S) (r : Outcome S) → Counts limit a r → Counts limit (outer_state formals actuals before a) (back formals actuals before r)
+  moved_back formals actuals before a (Gives values s) h = grown_objects limit (outer_state formals actuals before a) s a.stobjs _ h
+  moved_back formals actuals before a (Stops stop origin s) h = (grown_objects limit (outer_state formals actuals before a) s a.stobjs _ h.0, h.1)
   moved_back formals actuals before a Unknown h = h
 
-  cuts_back : (formals : List ℕ) (actuals : List (Shown S)) (before : State S) (r s : Ended S) → Cuts limit r s → Cuts limit (back formals actuals before r) (back formals actuals before s)
+  cuts_back : (formals : List ℕ) (actuals : List (Shown S)) (before : State S) (r s : Outcome S) → Cuts limit r s → Cuts limit (back formals actuals before r) (back formals actuals before s)
   cuts_back formals actuals before (Gives values state) s e = ap (back formals actuals before) e
-  cuts_back formals actuals before (Stops stop inside state) s (inl x) = inl (x.0, moved_back formals actuals before state s x.1)
-  cuts_back formals actuals before (Stops stop inside state) s (inr e) = inr (ap (back formals actuals before) e)
+  cuts_back formals actuals before (Stops stop origin state) s (inl x) = inl (x.0, moved_back formals actuals before state s x.1)
+  cuts_back formals actuals before (Stops stop origin state) s (inr e) = inr (ap (back formals actuals before) e)
   cuts_back formals actuals before Unknown s e = ap (back formals actuals before) e
 
-  moved_returned : (loans : List (Loan S)) (a : State S) (os : Objects S) (r : Ended S) → Counts limit a r → Counts limit (record a { objects = os }) (returned loans r)
-  moved_returned loans a os (Gives values s) h = grown_objects limit (record a { objects = os }) s a.objects _ h
-  moved_returned loans a os (Stops stop inside s) h = (grown_objects limit (record a { objects = os }) s a.objects _ h.0, h.1)
+  moved_returned : (loans : List (Loan S)) (a : State S) (os : Stobjs S) (r : Outcome S) → Counts limit a r → Counts limit (record a { stobjs = os }) (returned loans r)
+  moved_returned loans a os (Gives values s) h = grown_objects limit (record a { stobjs = os }) s a.stobjs _ h
+  moved_returned loans a os (Stops stop origin s) h = (grown_objects limit (record a { stobjs = os }) s a.stobjs _ h.0, h.1)
   moved_returned loans a os Unknown h = h
 
-  cuts_returned : (loans : List (Loan S)) (r s : Ended S) → Cuts limit r s → Cuts limit (returned loans r) (returned loans s)
+  cuts_returned : (loans : List (Loan S)) (r s : Outcome S) → Cuts limit r s → Cuts limit (returned loans r) (returned loans s)
   cuts_returned loans (Gives values state) s e = ap (returned loans) e
-  cuts_returned loans (Stops stop inside state) s (inl x) = inl (x.0, moved_returned loans state _ s x.1)
-  cuts_returned loans (Stops stop inside state) s (inr e) = inr (ap (returned loans) e)
+  cuts_returned loans (Stops stop origin state) s (inl x) = inl (x.0, moved_returned loans state _ s x.1)
+  cuts_returned loans (Stops stop origin state) s (inr e) = inr (ap (returned loans) e)
   cuts_returned loans Unknown s e = ap (returned loans) e
 
-  cuts_if : (b : Bool) (r s t u : Ended S) → Cuts limit r t → Cuts limit s u → Cuts limit (if b then r else s) (if b then t else u)
+  cuts_at : (n : ℕ) (r s : Outcome S) → Cuts limit r s → Cuts limit (cut_at n r) (cut_at n s)
+  cuts_at n (Gives values state) s e = ap (cut_at n) e
+  cuts_at n (Stops stop origin state) s (inl x) = inl (x.0, counts_cut limit n state s x.1)
+  cuts_at n (Stops stop origin state) s (inr e) = inr (ap (cut_at n) e)
+  cuts_at n Unknown s e = ap (cut_at n) e
+
+  cuts_if : (b : Bool) (r s t u : Outcome S) → Cuts limit r t → Cuts limit s u → Cuts limit (if b then r else s) (if b then t else u)
   cuts_if true r s t u e f = e
   cuts_if false r s t u e f = f
 
-  abbrev pub ToCuts : (State S → Ended S) → (State S → Ended S) → Type 0
+  abbrev pub ToCuts : (State S → Outcome S) → (State S → Outcome S) → Type 0
   ToCuts go to = (state : State S) → Cuts limit (go state) (to state)
 
-  pub cuts_counting : (k : ℕ) → k ≤ limit → (state : State S) (go to : State S → Ended S) → ToCuts go to → GoCounts limit to → Cuts limit (counting k state go) (counting limit state to)
+  pub cuts_counting : (k : ℕ) → k ≤ limit → (state : State S) (go to : State S → Outcome S) → ToCuts go to → GoCounts limit to → Cuts limit (counting k state go) (counting limit state to)
   cuts_counting k larger state go to h c = by_test (nat_lt state.calls k) refl
     where
-      by_test : (b : Bool) → nat_lt state.calls k ≡ b → Cuts limit (if b then go (one_more_call state) else Stops Steps None state) (counting limit state to)
+      by_test : (b : Bool) → nat_lt state.calls k ≡ b → Cuts limit (if b then go (one_more_call state) else stops_here Steps state) (counting limit state to)
       by_test true e = rw (below_larger state.calls k limit larger e) (h (one_more_call state))
       by_test false e = inl (tt, counts_counting limit state to c)
 
-module _ {S : Type 0} (r : Rules S) (limit : ℕ) (larger : r.limit ≤ limit) (export : FunctionOfAbstract → List (Shown S) → (State S → Ended S) → State S → Ended S) where
+module _ {S : Type 0} (r : Rules S) (limit : ℕ) (larger : r.limit ≤ limit) (export : FunctionOfAbstract → List (Shown S) → Stobjs S → (State S → Outcome S) → State S → Outcome S) where
   abbrev pub longer_rules : Rules S
   longer_rules = record { world = r.world; limit = limit; kind = r.kind; see = r.see; primitive = r.primitive; fresh = r.fresh; export = export }
 
   abbrev pub ExportsCut : Type 0
-  ExportsCut = (f : FunctionOfAbstract) (values : List (Shown S)) (go to : State S → Ended S) → ToCuts limit go to → GoCounts limit to → ToCuts limit (r.export f values go) (export f values to)
+  ExportsCut = (f : FunctionOfAbstract) (values : List (Shown S)) (before : Stobjs S) (go to : State S → Outcome S) → ToCuts limit go to → GoCounts limit to → ToCuts limit (r.export f values before go) (export f values before to)
 
   module _ (x : ExportsCut) (g : RulesCount longer_rules) where
     abbrev EvCuts : Evaluator S → Evaluator S → Type 0
@@ -96,7 +103,7 @@ module _ {S : Type 0} (r : Rules S) (limit : ℕ) (larger : r.limit ≤ limit) (
     abbrev EvCounts : Evaluator S → Type 0
     EvCounts eu = (form : Core) (variables : Variables S) (state : State S) → Counts limit state (eu form variables state)
 
-    stopped : (state : State S) (stop : Stop S) → (IsSteps stop → ⊥) → Counts limit state (Stops stop None state)
+    stopped : (state : State S) (stop : Stop S) → (IsSteps stop → ⊥) → Counts limit state (stops_here stop state)
     stopped state stop n = (grown_same limit state, λ q. absurd (n q))
 
     -- ---- calls
@@ -104,19 +111,21 @@ module _ {S : Type 0} (r : Rules S) (limit : ℕ) (larger : r.limit ≤ limit) (
     cuts_scoped : (ev eu : Evaluator S) (formals : List ℕ) (values : List (Shown S)) (form : Core) → EvCuts ev eu → ToCuts limit (scoped r ev formals values form) (scoped longer_rules eu formals values form)
     cuts_scoped ev eu formals values form h state = cuts_back limit formals values state _ _ (h form (inner_variables formals values) (inner_state formals values state))
 
-    cuts_guarded : (ev eu : Evaluator S) (name : ℕ) (formals : List ℕ) (guard : Core) (values : List (Shown S)) (go to : State S → Ended S) → EvCuts ev eu → ToCuts limit go to → GoCounts limit to → ToCuts limit (guarded r ev name formals guard values go) (guarded longer_rules eu name formals guard values to)
+    cuts_guarded : (ev eu : Evaluator S) (name : ℕ) (formals : List ℕ) (guard : Core) (values : List (Shown S)) (go to : State S → Outcome S) → EvCuts ev eu → ToCuts limit go to → GoCounts limit to → ToCuts limit (guarded r ev name formals guard values go) (guarded longer_rules eu name formals guard values to)
     cuts_guarded ev eu name formals guard values go to h k c state =
         cuts_then limit _ _ _ _ (cuts_scoped ev eu formals values guard h state)
         (λ test after. cuts_if limit (is_false r test) _ _ _ _ (inr refl) (k after))
         (λ test after. counts_if limit after (is_false r test) _ _ (stopped after (Guard name values) (λ q. q)) (c after))
 
-    cuts_abstract : (ev eu : Evaluator S) (exec to : ℕ → State S → Ended S) (f : FunctionOfAbstract) (role : AbstractRole) (values : List (Shown S)) → EvCuts ev eu → ToCuts limit (exec f.exec) (to f.exec) → GoCounts limit (to f.exec) → ToCuts limit (of_abstract r ev exec f role values) (of_abstract longer_rules eu to f role values)
+    cuts_abstract : (ev eu : Evaluator S) (exec to : ℕ → State S → Outcome S) (f : FunctionOfAbstract) (role : AbstractRole) (values : List (Shown S)) → EvCuts ev eu → ToCuts limit (exec f.exec) (to f.exec) → GoCounts limit (to f.exec) → ToCuts limit (of_abstract r ev exec f role values) (of_abstract longer_rules eu to f role values)
     cuts_abstract ev eu exec to f abstract_role.Recognizer values h k c state = refl
     cuts_abstract ev eu exec to f abstract_role.Creator values h k c state = inr refl
     cuts_abstract ev eu exec to f abstract_role.Export values h k c state =
-        cuts_guarded ev eu f.name f.formals f.guard values _ _ h (x f values (exec f.exec) (to f.exec) k c) (g.exports f values (to f.exec) c) state
+        cuts_at limit state.outer _ _
+        (cuts_guarded ev eu f.name f.formals f.guard values _ _ h
+        (x f values state.stobjs (exec f.exec) (to f.exec) k c) (g.exports f values state.stobjs (to f.exec) c) state)
 
-    cuts_definition : (ev eu : Evaluator S) (go to : FunctionOfAbstract → State S → Ended S) (d : Option Definition) (name : ℕ) (values : List (Shown S)) → EvCuts ev eu → EvCounts eu → ((f : FunctionOfAbstract) → ToCuts limit (go f) (to f)) → ToCuts limit (by_definition r ev go d name values) (by_definition longer_rules eu to d name values)
+    cuts_definition : (ev eu : Evaluator S) (go to : FunctionOfAbstract → State S → Outcome S) (d : Option Definition) (name : ℕ) (values : List (Shown S)) → EvCuts ev eu → EvCounts eu → ((f : FunctionOfAbstract) → ToCuts limit (go f) (to f)) → ToCuts limit (by_definition r ev go d name values) (by_definition longer_rules eu to d name values)
     cuts_definition ev eu go to None name values h c k state = inr refl
     cuts_definition ev eu go to (Some (Primitive f row)) name values h c k state = cuts_same limit _
     cuts_definition ev eu go to (Some (Defined f)) name values h c k state =
@@ -144,7 +153,7 @@ module _ {S : Type 0} (r : Rules S) (limit : ℕ) (larger : r.limit ≤ limit) (
 
     -- ---- parts
 
-    cuts_in_order : (ev eu : Evaluator S) (forms : Cores) (variables : Variables S) (done : List (Shown S)) (go to : List (Shown S) → State S → Ended S) → EvCuts ev eu → EvCounts eu → ((values : List (Shown S)) → ToCuts limit (go values) (to values)) → ((values : List (Shown S)) → GoCounts limit (to values)) → ToCuts limit (in_order r ev forms variables done go) (in_order longer_rules eu forms variables done to)
+    cuts_in_order : (ev eu : Evaluator S) (forms : Cores) (variables : Variables S) (done : List (Shown S)) (go to : List (Shown S) → State S → Outcome S) → EvCuts ev eu → EvCounts eu → ((values : List (Shown S)) → ToCuts limit (go values) (to values)) → ((values : List (Shown S)) → GoCounts limit (to values)) → ToCuts limit (in_order r ev forms variables done go) (in_order longer_rules eu forms variables done to)
     unfolding in_order
     cuts_in_order ev eu none variables done go to h c k q state = k done state
     cuts_in_order ev eu (more form forms) variables done go to h c k q state =
@@ -154,19 +163,19 @@ module _ {S : Type 0} (r : Rules S) (limit : ℕ) (larger : r.limit ≤ limit) (
 
     -- ---- children
 
-    cuts_borrowed_from : (child : ℕ) (by : Reached) (p : Shown S) (variables : Variables S) (go to : Loan S → State S → Ended S) → ((loan : Loan S) → ToCuts limit (go loan) (to loan)) → ((loan : Loan S) → GoCounts limit (to loan)) → ToCuts limit (borrowed_from r child by p variables go) (borrowed_from longer_rules child by p variables to)
+    cuts_borrowed_from : (child : ℕ) (by : Reached) (p : Shown S) (variables : Variables S) (go to : Loan S → State S → Outcome S) → ((loan : Loan S) → ToCuts limit (go loan) (to loan)) → ((loan : Loan S) → GoCounts limit (to loan)) → ToCuts limit (borrowed_from r child by p variables go) (borrowed_from longer_rules child by p variables to)
     cuts_borrowed_from child by (Plain o) variables go to k c state = inr refl
     cuts_borrowed_from child by (Stobj p) variables go to k c state =
         let loan = loan_of r child p by variables in
         cuts_counting limit r.limit larger state (borrowing r by.accessor loan (go loan)) (borrowing longer_rules by.accessor loan (to loan))
-        (λ after. cuts_if limit (is_reached loan.index (item loan.field (list_of after.objects loan.parent))) _ _ _ _ (k loan after) (inr refl))
-        (λ after. counts_if limit after (is_reached loan.index (item loan.field (list_of after.objects loan.parent))) (to loan after) _ (c loan after) (stopped after (Guard by.accessor (loan_values loan)) (λ q. q)))
+        (λ after. cuts_if limit (is_reached loan.index (item loan.field (list_of after.stobjs loan.parent))) _ _ _ _ (k loan after) (inr refl))
+        (λ after. counts_if limit after (is_reached loan.index (item loan.field (list_of after.stobjs loan.parent))) (to loan after) _ (c loan after) (stopped after (Guard by.accessor (loan_values loan)) (λ q. q)))
 
-    cuts_borrowed : (child : ℕ) (by : Option Reached) (variables : Variables S) (go to : Loan S → State S → Ended S) → ((loan : Loan S) → ToCuts limit (go loan) (to loan)) → ((loan : Loan S) → GoCounts limit (to loan)) → ToCuts limit (borrowed r child by variables go) (borrowed longer_rules child by variables to)
+    cuts_borrowed : (child : ℕ) (by : Option Reached) (variables : Variables S) (go to : Loan S → State S → Outcome S) → ((loan : Loan S) → ToCuts limit (go loan) (to loan)) → ((loan : Loan S) → GoCounts limit (to loan)) → ToCuts limit (borrowed r child by variables go) (borrowed longer_rules child by variables to)
     cuts_borrowed child None variables go to k c state = inr refl
     cuts_borrowed child (Some by) variables go to k c state = cuts_borrowed_from child by (variable_in r.kind variables by.parent) variables go to k c state
 
-    cuts_all_borrowed : (names : List ℕ) (forms : Cores) (variables : Variables S) (loans : List (Loan S)) (go to : List (Loan S) → State S → Ended S) → ((ls : List (Loan S)) → ToCuts limit (go ls) (to ls)) → ((ls : List (Loan S)) → GoCounts limit (to ls)) → ToCuts limit (all_borrowed r names forms variables loans go) (all_borrowed longer_rules names forms variables loans to)
+    cuts_all_borrowed : (names : List ℕ) (forms : Cores) (variables : Variables S) (loans : List (Loan S)) (go to : List (Loan S) → State S → Outcome S) → ((ls : List (Loan S)) → ToCuts limit (go ls) (to ls)) → ((ls : List (Loan S)) → GoCounts limit (to ls)) → ToCuts limit (all_borrowed r names forms variables loans go) (all_borrowed longer_rules names forms variables loans to)
     unfolding all_borrowed
     cuts_all_borrowed names none variables loans go to k c state = k loans state
     cuts_all_borrowed [] (more form forms) variables loans go to k c state = k loans state
@@ -175,14 +184,14 @@ module _ {S : Type 0} (r : Rules S) (limit : ℕ) (larger : r.limit ≤ limit) (
         (λ loan after. cuts_all_borrowed ys forms variables (loans ++ loan ∷ []) go to k c after)
         (λ loan. counts_all_borrowed longer_rules g ys forms variables (loans ++ loan ∷ []) to c) state
 
-    cuts_put_back : (vars : List ℕ) (loans : List (Loan S)) (go to : State S → Ended S) → ToCuts limit go to → GoCounts limit to → ToCuts limit (put_back r vars loans go) (put_back longer_rules vars loans to)
+    cuts_put_back : (vars : List ℕ) (loans : List (Loan S)) (go to : State S → Outcome S) → ToCuts limit go to → GoCounts limit to → ToCuts limit (put_back r vars loans go) (put_back longer_rules vars loans to)
     unfolding put_back
     cuts_put_back vars [] go to k c state = k state
     cuts_put_back vars (l ∷ ls) go to k c state =
         cuts_if limit (list_any (nat_eq l.child) vars) _ _ _ _
         (cuts_counting limit r.limit larger state _ _
-        (λ after. cuts_put_back vars ls go to k c (record after { objects = put_into_parent l after.objects }))
-        (λ after. counts_objects limit after _ _ (counts_put_back longer_rules g vars ls to c (record after { objects = put_into_parent l after.objects }))))
+        (λ after. cuts_put_back vars ls go to k c (record after { stobjs = put_into_parent l after.stobjs }))
+        (λ after. counts_objects limit after _ _ (counts_put_back longer_rules g vars ls to c (record after { stobjs = put_into_parent l after.stobjs }))))
         (cuts_put_back vars ls go to k c state)
 
     cuts_producing : (ev eu : Evaluator S) (vars : List ℕ) (producer : Core) (variables : Variables S) (loans : List (Loan S)) → EvCuts ev eu → ToCuts limit (producing r ev vars producer variables loans) (producing longer_rules eu vars producer variables loans)
@@ -199,9 +208,9 @@ module _ {S : Type 0} (r : Rules S) (limit : ℕ) (larger : r.limit ≤ limit) (
         (λ values after. h consumer (bound vars values variables) after)
         (λ values after. c consumer (bound vars values variables) after))
 
-    cuts_fresh : (ev eu : Evaluator S) (y : ℕ) (l : Option (ObjectList S)) (producer : Core) (variables : Variables S) → EvCuts ev eu → ToCuts limit (with_fresh r ev y l producer variables) (with_fresh longer_rules eu y l producer variables)
+    cuts_fresh : (ev eu : Evaluator S) (y : ℕ) (l : Option (StobjList S)) (producer : Core) (variables : Variables S) → EvCuts ev eu → ToCuts limit (with_fresh r ev y l producer variables) (with_fresh longer_rules eu y l producer variables)
     cuts_fresh ev eu y None producer variables h state = refl
-    cuts_fresh ev eu y (Some l) producer variables h state = cuts_state limit (λ s. drop 1 s.objects) _ _ (h producer _ _)
+    cuts_fresh ev eu y (Some l) producer variables h state = cuts_state limit (λ s. drop 1 s.stobjs) _ _ (h producer _ _)
 
     -- ---- forms
 
@@ -231,7 +240,7 @@ module _ {S : Type 0} (r : Rules S) (limit : ℕ) (larger : r.limit ≤ limit) (
     cuts_opened ev eu h c (Call f actuals) variables state =
         cuts_in_order ev eu actuals variables [] _ _ h c (λ values. cuts_called ev eu f values h c) (λ values. counts_called longer_rules g eu f values c) state
 
-    cuts_leaf : (l : Option (Shown S)) (state : State S) (a b : Ended S) → Cuts limit a b → Cuts limit (leaf_or r l state a) (leaf_or longer_rules l state b)
+    cuts_leaf : (l : Option (Shown S)) (state : State S) (a b : Outcome S) → Cuts limit a b → Cuts limit (leaf_or r l state a) (leaf_or longer_rules l state b)
     cuts_leaf (Some v) state a b e = refl
     cuts_leaf None state a b e = e
 

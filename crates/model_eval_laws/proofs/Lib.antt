@@ -2,15 +2,10 @@ pub mod Agree
 pub mod LimitLemmas
 pub mod Counts
 pub mod CountLemmas
-pub mod AbstractCountLemmas
 pub mod Lists
 pub mod Frame
 pub mod FrameLemmas
-pub mod BudgetLemmas
-pub mod Kept
-pub mod AbstractBudgetLemmas
 pub mod OpeningLemmas
 pub mod Cut
 pub mod CutLemmas
 pub mod WordLemmas
-pub mod StandingLemmas

@@ -1,27 +1,26 @@
--- The rules of checked and of abstract evaluation grow with their limits and worlds.
+-- The rules of checked evaluation grow with their limits and worlds.
 use Rattle.std.proofs.Common.{◌≡◌, ℕ, zero, suc, ◌≤◌, List, [], ◌∷◌, Bool, true, false, Option, Some, None, refl, sym, ap, ◌∙◌, arith, inl, inr}
 use Rattle.std.specs.Prelude.{nat_lt, if◌then◌else◌, ◌⊎◌}
 use Rattle.std.proofs.lemmas.Bool.Decides.{nat_tests}
 use Rattle.model_objects.specs.Object.{Object}
-use Rattle.model_symbols.specs.Symbols.{Package, QualifiedName}
+use Rattle.model_symbols.specs.Symbols.{Package}
 use Rattle.model_lists.specs.Layouts.{Layout}
 use Rattle.model_lists.specs.Layouts as layout
 use Rattle.model_terms.specs.Cores.{Core, Cores, Reached, Var, Const, If, Let, Mv, MvLet, StobjLet, WithLocal, MustBeEqual, Call, none, more, reached}
 use Rattle.model_terms.specs.Worlds.{World, Definition, Shape, Field, FunctionOfAbstract, definition, Primitive, Defined, Macro, Constant, Concrete, Generated, Abstract, OfAbstract, Named, Signed}
 use Rattle.model_terms.specs.Worlds as worlds
-use Rattle.model_eval.specs.Outcomes.{Shown, Stop, Steps, State, Ended, Gives, Stops, Unknown, one_more_call}
+use Rattle.model_eval.specs.Outcomes.{Shown, Stop, Steps, State, Outcome, Gives, Stops, Unknown, one_more_call, stops_here, Stobjs}
 use Rattle.model_eval.specs.Scopes.{Variables}
-use Rattle.model_eval.specs.Worlds.{object_layout, layout_within, shape_layout, fields_layout, defined_layout, most_nested}
-use Rattle.model_eval.specs.Checked.{checked, checked_rules, checked_export, inside}
-use Rattle.model_eval.specs.Logic.{Book}
-use Rattle.model_eval.specs.AbstractRules.{abstract_rules}
+use Rattle.model_eval.specs.Worlds.{stobj_layout, layout_within, shape_layout, fields_layout, defined_layout, most_nested}
+use Rattle.model_eval.specs.Checked.{checked, checked_rules, checked_export, inside_after}
+use Rattle.model_eval.specs.ListsKeeping.{lists_keeping}
 use Rattle.model_eval_laws.specs.Agreement.{Agrees, ReachedStands, Closed, AllClosed, AllReached, ShapeStands, FieldsStand, ClosedDefinition, StandsIn, IsClosedWorld, HasGrown}
 use Rattle.model_eval_laws.specs.Laws.{IsSteps, IsDepth, AgreesUntilLimit, KeepsOutcomes}
-use Rattle.model_eval_laws.proofs.Agree.{agrees_same, Grows, agrees_evaluated, agrees_deeper}
+use Rattle.model_eval_laws.proofs.Agree.{Grows, agrees_evaluated, agrees_deeper}
 
 -- ---- where every name stands
 
-abbrev Always : ℕ → Type 0
+abbrev pub Always : ℕ → Type 0
 Always x = Unit {0}
 
 reached_always : (by : Option Reached) → ReachedStands Always by
@@ -29,7 +28,7 @@ reached_always None = tt
 reached_always (Some by) = tt
 
 mutual
-  closed_always : (form : Core) → Closed Always form
+  pub closed_always : (form : Core) → Closed Always form
   closed_always (Var x) = tt
   closed_always (Const o) = tt
   closed_always (If a b c) = (closed_always a, closed_always b, closed_always c)
@@ -60,7 +59,7 @@ fields_always : (fs : List Field) → FieldsStand Always fs
 fields_always [] = tt
 fields_always (f ∷ fs) = (shape_always f.shape, fields_always fs)
 
-defined_always : (d : Definition) → ClosedDefinition Always d
+pub defined_always : (d : Definition) → ClosedDefinition Always d
 defined_always (Primitive name row) = tt
 defined_always (Defined f) = (closed_always f.guard, closed_always f.body)
 defined_always (Macro name formals body) = tt
@@ -75,31 +74,31 @@ defined_always (Signed name formals signature executable) = tt
 -- ---- exports of checked evaluation
 
 module _ (Excused : Stop ℕ → Type 0) where
-  agrees_inside : (x : ℕ) (before : State ℕ) (r s : Ended ℕ) → Agrees Excused r s → Agrees Excused (inside x before r) (inside x before s)
-  agrees_inside x before (Gives values state) s e = ap (inside x before) e
-  agrees_inside x before (Stops stop within state) s (inl y) = inl y
-  agrees_inside x before (Stops stop within state) s (inr e) = inr (ap (inside x before) e)
-  agrees_inside x before Unknown s e = ap (inside x before) e
+  agrees_inside : (actuals : List (Shown ℕ)) (before : Stobjs ℕ) (x outer : ℕ) (r s : Outcome ℕ) → Agrees Excused r s → Agrees Excused (inside_after lists_keeping actuals before x outer r) (inside_after lists_keeping actuals before x outer s)
+  agrees_inside actuals before x outer (Gives values state) s e = ap (inside_after lists_keeping actuals before x outer) e
+  agrees_inside actuals before x outer (Stops stop origin state) s (inl y) = inl y
+  agrees_inside actuals before x outer (Stops stop origin state) s (inr e) = inr (ap (inside_after lists_keeping actuals before x outer) e)
+  agrees_inside actuals before x outer Unknown s e = ap (inside_after lists_keeping actuals before x outer) e
 
   module _ (k l : ℕ) (counted : (n : ℕ) → nat_lt n k ≡ true → nat_lt n l ≡ true) (uncounted : (n : ℕ) → nat_lt n k ≡ false → Excused Steps ⊎ (nat_lt n l ≡ false)) where
-    agrees_export : (f : FunctionOfAbstract) (values : List (Shown ℕ)) (go to : State ℕ → Ended ℕ) → ((state : State ℕ) → Agrees Excused (go state) (to state)) → (state : State ℕ) → Agrees Excused (checked_export k f values go state) (checked_export l f values to state)
-    agrees_export f values go to h state = by_test (nat_lt state.calls k) refl
+    agrees_export : (f : FunctionOfAbstract) (values : List (Shown ℕ)) (before : Stobjs ℕ) (go to : State ℕ → Outcome ℕ) → ((state : State ℕ) → Agrees Excused (go state) (to state)) → (state : State ℕ) → Agrees Excused (checked_export lists_keeping k f values before go state) (checked_export lists_keeping l f values before to state)
+    agrees_export f values before go to h state = by_test (nat_lt state.calls k) refl
       where
-        stopped : Excused Steps ⊎ (nat_lt state.calls l ≡ false) → Agrees Excused (Stops Steps None state) (checked_export l f values to state)
+        stopped : Excused Steps ⊎ (nat_lt state.calls l ≡ false) → Agrees Excused (stops_here Steps state) (checked_export lists_keeping l f values before to state)
         stopped (inl x) = inl x
         stopped (inr e) = inr (rw e refl)
 
-        by_test : (b : Bool) → nat_lt state.calls k ≡ b → Agrees Excused (if b then inside f.name state (go (one_more_call state)) else Stops Steps None state) (checked_export l f values to state)
-        by_test true e = rw (counted state.calls e) (agrees_inside f.name state _ _ (h (one_more_call state)))
+        by_test : (b : Bool) → nat_lt state.calls k ≡ b → Agrees Excused (if b then inside_after lists_keeping values before f.name state.outer (go (one_more_call state)) else stops_here Steps state) (checked_export lists_keeping l f values before to state)
+        by_test true e = rw (counted state.calls e) (agrees_inside values before f.name state.outer _ _ (h (one_more_call state)))
         by_test false e = stopped (uncounted state.calls e)
 
 -- ---- limits
 
-below_larger : (n k l : ℕ) → k ≤ l → nat_lt n k ≡ true → nat_lt n l ≡ true
+pub below_larger : (n k l : ℕ) → k ≤ l → nat_lt n k ≡ true → nat_lt n l ≡ true
 below_larger n k l h e = grind (arith, nat_tests)
 
 -- one world, and a limit of calls that may be larger
-checked_grows : (Excused : Stop ℕ → Type 0) (w : World) (packages : List Package) (k l : ℕ) → k ≤ l → ((n : ℕ) → nat_lt n k ≡ false → Excused Steps ⊎ (nat_lt n l ≡ false)) → Grows Excused (checked_rules w packages k) w l (checked_rules w packages l).fresh (checked_export l) Always
+checked_grows : (Excused : Stop ℕ → Type 0) (w : World) (packages : List Package) (k l : ℕ) → k ≤ l → ((n : ℕ) → nat_lt n k ≡ false → Excused Steps ⊎ (nat_lt n l ≡ false)) → Grows Excused (checked_rules w packages k) w l (checked_rules w packages l).fresh (checked_export lists_keeping l) Always
 checked_grows Excused w packages k l h u = record {
   definitions = λ x s. refl;
   closed = λ x d s e. defined_always d;
@@ -110,23 +109,10 @@ checked_grows Excused w packages k l h u = record {
   uncounted = u;
 }
 
-abstract_grows : (Excused : Stop QualifiedName → Type 0) (b : Book) (budget k l : ℕ) → k ≤ l → ((n : ℕ) → nat_lt n k ≡ false → Excused Steps ⊎ (nat_lt n l ≡ false)) → Grows Excused (abstract_rules b budget k) b.world l (abstract_rules b budget l).fresh (abstract_rules b budget l).export Always
-abstract_grows Excused b budget k l h u = record {
-  definitions = λ x s. refl;
-  closed = λ x d s e. defined_always d;
-  layouts = λ x s. refl;
-  freshly = λ x s. refl;
-  exports = λ f values go to h state. agrees_same Excused ((abstract_rules b budget k).export f values go state);
-  counted = λ n e. below_larger n k l h e;
-  uncounted = u;
-}
-
 pub agrees_until_limit : AgreesUntilLimit
 agrees_until_limit = record {
   steps = λ w packages k l d form variables state h. agrees_evaluated IsSteps (checked_rules w packages k) w l _ _ Always (checked_grows IsSteps w packages k l h (λ n e. inl tt)) d form variables state (closed_always form);
   depth = λ w packages k d e form variables state h. agrees_deeper IsDepth (checked_rules w packages k) w k _ _ Always (checked_grows IsDepth w packages k k (omega arith) (λ n e. inr e)) tt d e h form variables state (closed_always form);
-  abstract_steps = λ b budget k l d form variables state h. agrees_evaluated IsSteps (abstract_rules b budget k) b.world l _ _ Always (abstract_grows IsSteps b budget k l h (λ n e. inl tt)) d form variables state (closed_always form);
-  abstract_depth = λ b budget k d e form variables state h. agrees_deeper IsDepth (abstract_rules b budget k) b.world k _ _ Always (abstract_grows IsDepth b budget k k (omega arith) (λ n e. inr e)) tt d e h form variables state (closed_always form);
 }
 
 -- ---- worlds
@@ -165,13 +151,13 @@ module _ (old new : World) (c : IsClosedWorld old) (g : HasGrown old new) where
   same_within see (suc n) x s =
       rw (g.same x s.0 s.1, s.1) (same_defined see (layout_within see new n) (layout_within see old n) (same_within see n) s.0 (c.definitions x s.0 s.1))
 
-  same_layout : {S : Type 0} (see : Object ℕ → Object S) (x : ℕ) → StandsIn old x → object_layout see new x ≡ object_layout see old x
+  same_layout : {S : Type 0} (see : Object ℕ → Object S) (x : ℕ) → StandsIn old x → stobj_layout see new x ≡ stobj_layout see old x
   same_layout see x s = same_within see (suc most_nested) x s
 
   abbrev Nothing : Stop ℕ → Type 0
   Nothing stop = ⊥
 
-  world_grows : (packages : List Package) (k : ℕ) → Grows Nothing (checked_rules old packages k) new k (checked_rules new packages k).fresh (checked_export k) (StandsIn old)
+  world_grows : (packages : List Package) (k : ℕ) → Grows Nothing (checked_rules old packages k) new k (checked_rules new packages k).fresh (checked_export lists_keeping k) (StandsIn old)
   world_grows packages k = record {
     definitions = same_definition;
     closed = λ x d s e. c.definitions x d e;
@@ -182,10 +168,10 @@ module _ (old new : World) (c : IsClosedWorld old) (g : HasGrown old new) where
     uncounted = λ n e. inr e;
   }
 
-  agrees_is_same : (r s : Ended ℕ) → Agrees Nothing r s → s ≡ r
+  agrees_is_same : (r s : Outcome ℕ) → Agrees Nothing r s → s ≡ r
   agrees_is_same (Gives values state) s e = e
-  agrees_is_same (Stops stop within state) s (inl x) = absurd x
-  agrees_is_same (Stops stop within state) s (inr e) = e
+  agrees_is_same (Stops stop origin state) s (inl x) = absurd x
+  agrees_is_same (Stops stop origin state) s (inr e) = e
   agrees_is_same Unknown s e = e
 
   same_outcome : (packages : List Package) (k d : ℕ) (form : Core) (variables : Variables ℕ) (state : State ℕ) → Closed (StandsIn old) form → checked new packages k d form variables state ≡ checked old packages k d form variables state

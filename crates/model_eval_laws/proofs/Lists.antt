@@ -5,11 +5,12 @@ use Rattle.std.proofs.lemmas.Bool.Decides.{nat_tests}
 use Rattle.std.proofs.lemmas.List.{drop-append-le, length-append}
 use Rattle.std.proofs.Math.Seq.{drop-append_seam}
 use Rattle.model_prims.specs.Kinds.{SymbolKind}
-use Rattle.model_lists.specs.Lists.{ObjectList}
-use Rattle.model_eval.specs.Outcomes.{Shown, Plain, Stobj, Objects}
-use Rattle.model_eval.specs.Scopes.{Variables, variable_in, bound, list_of, with_list, inner_variables, inner_objects, handed_back, actual_for, outer_value, first_object, plain}
+use Rattle.model_lists.specs.Lists.{StobjList}
+use Rattle.model_eval.specs.Outcomes.{Shown, Plain, Stobj, Stobjs}
+use Rattle.model_eval.specs.Scopes.{Variables, variable_in, bound, list_of, with_list, inner_variables, inner_stobjs, handed_back, actual_for, outer_value, first_stobj, plain}
 use Rattle.model_eval.specs.Generated.{list_or_none}
-use Rattle.model_eval.specs.Children.{Loan, lent, put_into_parent, all_put, with_child}
+use Rattle.model_eval.specs.Children.{Loan, lent, put_into_parent, with_child}
+use Rattle.model_eval.specs.ListsKeeping.{lists_keeping, list_restored, all_put}
 use Rattle.model_eval_laws.specs.Scope.{names, is_among, InScope, AllInScope}
 
 pub same_number : (x : ℕ) → nat_eq x x ≡ true
@@ -76,7 +77,7 @@ module _ {S : Type 0} where
 
   -- ---- lists
 
-  pub list_widened : (os more : Objects S) (x : ℕ) → is_among x (names os) ≡ true → list_of (os ++ more) x ≡ list_of os x
+  pub list_widened : (os more : Stobjs S) (x : ℕ) → is_among x (names os) ≡ true → list_of (os ++ more) x ≡ list_of os x
   list_widened [] more x e = cc
   list_widened (o ∷ os) more x e = go (nat_eq x o.0) (list_widened os more x) e
     where
@@ -84,16 +85,16 @@ module _ {S : Type 0} where
       go true h e = refl
       go false h e = h e
 
-  pub write_widened : (x : ℕ) (l : ObjectList S) (os more : Objects S) → is_among x (names os) ≡ true → with_list x l (os ++ more) ≡ with_list x l os ++ more
+  pub write_widened : (x : ℕ) (l : StobjList S) (os more : Stobjs S) → is_among x (names os) ≡ true → with_list x l (os ++ more) ≡ with_list x l os ++ more
   write_widened x l [] more e = cc
   write_widened x l (o ∷ os) more e = go (nat_eq x o.0) (write_widened x l os more) e
     where
       go : (b : Bool) → (is_among x (names os) ≡ true → with_list x l (os ++ more) ≡ with_list x l os ++ more) → (b || is_among x (names os)) ≡ true
           → (if b then (o.0, l) ∷ (os ++ more) else o ∷ with_list x l (os ++ more)) ≡ (if b then (o.0, l) ∷ os else o ∷ with_list x l os) ++ more
       go true h e = refl
-      go false h e = ap (λ (ps : Objects S). o ∷ ps) (h e)
+      go false h e = ap (λ (ps : Stobjs S). o ∷ ps) (h e)
 
-  pub names_write : (x : ℕ) (l : ObjectList S) (os : Objects S) → names (with_list x l os) ≡ names os
+  pub names_write : (x : ℕ) (l : StobjList S) (os : Stobjs S) → names (with_list x l os) ≡ names os
   names_write x l [] = refl
   names_write x l (o ∷ os) = go (nat_eq x o.0) (names_write x l os)
     where
@@ -103,13 +104,13 @@ module _ {S : Type 0} where
 
   -- ---- calls
 
-  pub handed_widened : (xs : List ℕ) (vs : List (Shown S)) (os more : Objects S) → ValuesIn (names os) vs → inner_objects xs vs (os ++ more) ≡ inner_objects xs vs os
+  pub handed_widened : (xs : List ℕ) (vs : List (Shown S)) (os more : Stobjs S) → ValuesIn (names os) vs → inner_stobjs xs vs (os ++ more) ≡ inner_stobjs xs vs os
   handed_widened [] vs os more h = refl
   handed_widened (x ∷ xs) [] os more h = refl
   handed_widened (x ∷ xs) (Plain o ∷ vs) os more h = handed_widened xs vs os more h.1
   handed_widened (x ∷ xs) (Stobj y ∷ vs) os more h = rw (list_widened os more y h.0, handed_widened xs vs os more h.1) refl
 
-  pub back_widened : (xs : List ℕ) (vs : List (Shown S)) (inner os more : Objects S) → ValuesIn (names os) vs → handed_back xs vs inner (os ++ more) ≡ handed_back xs vs inner os ++ more
+  pub back_widened : (xs : List ℕ) (vs : List (Shown S)) (inner os more : Stobjs S) → ValuesIn (names os) vs → handed_back xs vs inner (os ++ more) ≡ handed_back xs vs inner os ++ more
   back_widened [] vs inner os more h = refl
   back_widened (x ∷ xs) [] inner os more h = refl
   back_widened (x ∷ xs) (Plain o ∷ vs) inner os more h = back_widened xs vs inner os more h.1
@@ -117,49 +118,57 @@ module _ {S : Type 0} where
       rw (write_widened y (list_of inner x) os more h.0)
       (back_widened xs vs inner (with_list y (list_of inner x) os) more (subst (λ ns. ValuesIn ns vs) (sym (names_write y (list_of inner x) os)) h.1))
 
-  pub names_back : (xs : List ℕ) (vs : List (Shown S)) (inner os : Objects S) → names (handed_back xs vs inner os) ≡ names os
+  pub names_back : (xs : List ℕ) (vs : List (Shown S)) (inner os : Stobjs S) → names (handed_back xs vs inner os) ≡ names os
   names_back [] vs inner os = refl
   names_back (x ∷ xs) [] inner os = refl
   names_back (x ∷ xs) (Plain o ∷ vs) inner os = names_back xs vs inner os
   names_back (x ∷ xs) (Stobj y ∷ vs) inner os =
       names_back xs vs inner (with_list y (list_of inner x) os) ∙ names_write y (list_of inner x) os
 
-  pub scope_inner : (xs : List ℕ) (vs : List (Shown S)) (os : Objects S) → AllInScope (names (inner_objects xs vs os)) (inner_variables xs vs)
+  pub scope_inner : (xs : List ℕ) (vs : List (Shown S)) (os : Stobjs S) → AllInScope (names (inner_stobjs xs vs os)) (inner_variables xs vs)
   scope_inner [] vs os = tt
   scope_inner (x ∷ xs) [] os = tt
   scope_inner (x ∷ xs) (Plain o ∷ vs) os = (tt, scope_inner xs vs os)
   scope_inner (x ∷ xs) (Stobj y ∷ vs) os =
       (among_first x (x ∷ []) _ (rw (same_number x) refl), variables_more (x ∷ []) _ (inner_variables xs vs) (scope_inner xs vs os))
 
-  scope_actual : (ns xs : List ℕ) (vs : List (Shown S)) (os : Objects S) (x : ℕ) → ValuesIn ns vs → is_among x (names (inner_objects xs vs os)) ≡ true → is_among (actual_for xs vs x) ns ≡ true
+  scope_actual : (ns xs : List ℕ) (vs : List (Shown S)) (os : Stobjs S) (x : ℕ) → ValuesIn ns vs → is_among x (names (inner_stobjs xs vs os)) ≡ true → is_among (actual_for xs vs x) ns ≡ true
   scope_actual ns [] vs os x h e = cc
   scope_actual ns (y ∷ ys) [] os x h e = cc
   scope_actual ns (y ∷ ys) (Plain o ∷ vs) os x h e = scope_actual ns ys vs os x h.1 e
   scope_actual ns (y ∷ ys) (Stobj z ∷ vs) os x h e = go (nat_eq x y) (scope_actual ns ys vs os x h.1) e
     where
-      go : (b : Bool) → (is_among x (names (inner_objects ys vs os)) ≡ true → is_among (actual_for ys vs x) ns ≡ true) → (b || is_among x (names (inner_objects ys vs os))) ≡ true
+      go : (b : Bool) → (is_among x (names (inner_stobjs ys vs os)) ≡ true → is_among (actual_for ys vs x) ns ≡ true) → (b || is_among x (names (inner_stobjs ys vs os))) ≡ true
           → is_among (if b then z else actual_for ys vs x) ns ≡ true
       go true i e = h.0
       go false i e = i e
 
-  scope_outer : (ns xs : List ℕ) (vs : List (Shown S)) (os : Objects S) (v : Shown S) → ValuesIn ns vs → InScope (names (inner_objects xs vs os)) v → InScope ns (outer_value xs vs v)
+  scope_outer : (ns xs : List ℕ) (vs : List (Shown S)) (os : Stobjs S) (v : Shown S) → ValuesIn ns vs → InScope (names (inner_stobjs xs vs os)) v → InScope ns (outer_value xs vs v)
   scope_outer ns xs vs os (Plain o) h i = tt
   scope_outer ns xs vs os (Stobj x) h i = scope_actual ns xs vs os x h i
 
-  pub values_outer : (ns xs : List ℕ) (vs : List (Shown S)) (os : Objects S) (us : List (Shown S)) → ValuesIn ns vs → ValuesIn (names (inner_objects xs vs os)) us → ValuesIn ns (map (outer_value xs vs) us)
+  pub values_outer : (ns xs : List ℕ) (vs : List (Shown S)) (os : Stobjs S) (us : List (Shown S)) → ValuesIn ns vs → ValuesIn (names (inner_stobjs xs vs os)) us → ValuesIn ns (map (outer_value xs vs) us)
   values_outer ns xs vs os [] h i = tt
   values_outer ns xs vs os (u ∷ us) h i = (scope_outer ns xs vs os u h i.0, values_outer ns xs vs os us h i.1)
 
   -- ---- one object
 
-  pub scope_first : (ns : List ℕ) (vs : List (Shown S)) → ValuesIn ns vs → OptionIn ns (first_object vs)
+  pub scope_first : (ns : List ℕ) (vs : List (Shown S)) → ValuesIn ns vs → OptionIn ns (first_stobj vs)
   scope_first ns [] h = tt
   scope_first ns (Plain o ∷ vs) h = scope_first ns vs h.1
   scope_first ns (Stobj x ∷ vs) h = h.0
 
-  pub option_widened : (k : SymbolKind S) (os more : Objects S) (x : Option ℕ) → OptionIn (names os) x → list_or_none k (os ++ more) x ≡ list_or_none k os x
+  pub option_widened : (k : SymbolKind S) (os more : Stobjs S) (x : Option ℕ) → OptionIn (names os) x → list_or_none lists_keeping (os ++ more) x ≡ list_or_none lists_keeping os x
   option_widened k os more None h = refl
   option_widened k os more (Some x) h = list_widened os more x h
+
+  pub restored_widened : (x : Option ℕ) (before os more : Stobjs S) → OptionIn (names before) x → OptionIn (names os) x → list_restored x (before ++ more) (os ++ more) ≡ list_restored x before os ++ more
+  restored_widened None before os more h i = refl
+  restored_widened (Some x) before os more h i = rw (list_widened before more x h) (write_widened x (list_of before x) os more i)
+
+  pub names_restored : (x : Option ℕ) (before os : Stobjs S) → names (list_restored x before os) ≡ names os
+  names_restored None before os = refl
+  names_restored (Some x) before os = names_write x (list_of before x) os
 
   -- ---- children
 
@@ -188,51 +197,51 @@ module _ {S : Type 0} where
   kids_in ns (l ∷ ls) h =
       (among_first l.child (l.child ∷ []) _ (rw (same_number l.child) refl), among_more l.parent (children (l ∷ ls)) ns h.0, kids_more l.child (children ls ++ ns) ls (kids_in ns ls h.1))
 
-  pub lent_widened : (ls : List (Loan S)) (os more : Objects S) → LoansIn (names os) ls → lent ls (os ++ more) ≡ lent ls os
+  pub lent_widened : (ls : List (Loan S)) (os more : Stobjs S) → LoansIn (names os) ls → lent ls (os ++ more) ≡ lent ls os
   lent_widened [] os more h = refl
   lent_widened (l ∷ ls) os more h = rw (list_widened os more l.parent h.0, lent_widened ls os more h.1) refl
 
-  pub names_append : (os ps : Objects S) → names (os ++ ps) ≡ names os ++ names ps
+  pub names_append : (os ps : Stobjs S) → names (os ++ ps) ≡ names os ++ names ps
   names_append [] ps = refl
   names_append (o ∷ os) ps = ap (λ (ns : List ℕ). o.0 ∷ ns) (names_append os ps)
 
-  pub names_lent : (ls : List (Loan S)) (os : Objects S) → names (lent ls os) ≡ children ls
+  pub names_lent : (ls : List (Loan S)) (os : Stobjs S) → names (lent ls os) ≡ children ls
   names_lent [] os = refl
   names_lent (l ∷ ls) os = ap (λ (ns : List ℕ). l.child ∷ ns) (names_lent ls os)
 
-  pub put_widened : (l : Loan S) (os more : Objects S) → is_among l.child (names os) ≡ true → is_among l.parent (names os) ≡ true → put_into_parent l (os ++ more) ≡ put_into_parent l os ++ more
+  pub put_widened : (l : Loan S) (os more : Stobjs S) → is_among l.child (names os) ≡ true → is_among l.parent (names os) ≡ true → put_into_parent l (os ++ more) ≡ put_into_parent l os ++ more
   put_widened l os more c p = rw (list_widened os more l.child c, list_widened os more l.parent p) (write_widened l.parent _ os more p)
 
-  pub names_put : (l : Loan S) (os : Objects S) → names (put_into_parent l os) ≡ names os
+  pub names_put : (l : Loan S) (os : Stobjs S) → names (put_into_parent l os) ≡ names os
   names_put l os = names_write l.parent (with_child l (list_of os l.child) (list_of os l.parent)) os
 
-  pub all_put_widened : (ls : List (Loan S)) (os more : Objects S) → KidsIn (names os) ls → all_put ls (os ++ more) ≡ all_put ls os ++ more
+  pub all_put_widened : (ls : List (Loan S)) (os more : Stobjs S) → KidsIn (names os) ls → all_put ls (os ++ more) ≡ all_put ls os ++ more
   all_put_widened [] os more h = refl
   all_put_widened (l ∷ ls) os more h =
       rw (put_widened l os more h.0 h.1) (all_put_widened ls (put_into_parent l os) more (subst (λ ns. KidsIn ns ls) (sym (names_put l os)) h.2))
 
-  pub names_all_put : (ls : List (Loan S)) (os : Objects S) → names (all_put ls os) ≡ names os
+  pub names_all_put : (ls : List (Loan S)) (os : Stobjs S) → names (all_put ls os) ≡ names os
   names_all_put [] os = refl
   names_all_put (l ∷ ls) os = names_all_put ls (put_into_parent l os) ∙ names_put l os
 
   -- ---- the innermost objects
 
-  length_names : (os : Objects S) → length os ≡ length (names os)
+  length_names : (os : Stobjs S) → length os ≡ length (names os)
   length_names [] = refl
   length_names (o ∷ os) = ap (λ (n : ℕ). suc n) (length_names os)
 
-  names-drop : (n : ℕ) (os : Objects S) → names (drop n os) ≡ drop n (names os)
+  names-drop : (n : ℕ) (os : Stobjs S) → names (drop n os) ≡ drop n (names os)
   names-drop zero os = refl
   names-drop (suc n) [] = refl
   names-drop (suc n) (o ∷ os) = names-drop n os
 
-  pub drop_widened : (ms ns : List ℕ) (os more : Objects S) → names os ≡ ms ++ ns → drop (length ms) (os ++ more) ≡ drop (length ms) os ++ more
+  pub drop_widened : (ms ns : List ℕ) (os more : Stobjs S) → names os ≡ ms ++ ns → drop (length ms) (os ++ more) ≡ drop (length ms) os ++ more
   drop_widened ms ns os more e =
       let all : length os ≡ length ms + length ns = length_names os ∙ (ap (λ (l : List ℕ). length l) e ∙ length-append ms ns) in
       let within : length ms ≤ length os = omega (arith, all) in
       drop-append-le (length ms) os more within
 
-  pub names_drop : (ms ns : List ℕ) (os : Objects S) → names os ≡ ms ++ ns → names (drop (length ms) os) ≡ ns
+  pub names_drop : (ms ns : List ℕ) (os : Stobjs S) → names os ≡ ms ++ ns → names (drop (length ms) os) ≡ ns
   names_drop ms ns os e = names-drop (length ms) os ∙ (ap (drop (length ms)) e ∙ drop-append_seam ms ns)
 
   pub length_children : (ls : List (Loan S)) → length (children ls) ≡ length ls

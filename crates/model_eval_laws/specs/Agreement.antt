@@ -3,14 +3,14 @@ use Rattle.std.specs.Prelude.{◌≡◌, ℕ, List, [], ◌∷◌, Option, Some,
 use Rattle.model_terms.specs.Cores.{Core, Cores, Reached, Var, Const, If, Let, Mv, MvLet, StobjLet, WithLocal, MustBeEqual, Call, none, more, reached}
 use Rattle.model_terms.specs.Worlds.{World, Definition, Shape, Field, definition, Primitive, Defined, Macro, Constant, Concrete, Generated, Abstract, OfAbstract, Named, Signed}
 use Rattle.model_terms.specs.Worlds as worlds
-use Rattle.model_eval.specs.Outcomes.{Stop, Ended, Gives, Stops, Unknown}
+use Rattle.model_eval.specs.Outcomes.{Stop, Outcome, Gives, Stops, Unknown}
 
 -- ---- outcomes
 
 -- the second is the first, unless the first is a stop that is excused
-abbrev pub Agrees : {S : Type 0} → (Stop S → Type 0) → Ended S → Ended S → Type 0
+abbrev pub Agrees : {S : Type 0} → (Stop S → Type 0) → Outcome S → Outcome S → Type 0
 Agrees Excused (Gives values state) r = r ≡ Gives values state
-Agrees Excused (Stops stop inside state) r = Excused stop ⊎ (r ≡ Stops stop inside state)
+Agrees Excused (Stops stop origin state) r = Excused stop ⊎ (r ≡ Stops stop origin state)
 Agrees Excused Unknown r = r ≡ Unknown
 
 -- ---- names that a form needs

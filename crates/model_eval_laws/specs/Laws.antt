@@ -1,13 +1,11 @@
 -- What is said of evaluation, as laws.
 use Rattle.std.specs.Prelude.{◌≡◌, ℕ, ◌≤◌, List}
-use Rattle.model_symbols.specs.Symbols.{Package, QualifiedName}
+use Rattle.model_symbols.specs.Symbols.{Package}
 use Rattle.model_terms.specs.Cores.{Core}
 use Rattle.model_terms.specs.Worlds.{World}
 use Rattle.model_eval.specs.Outcomes.{Stop, Guard, Steps, Depth, Range, Large, Symbols, State}
 use Rattle.model_eval.specs.Scopes.{Variables}
 use Rattle.model_eval.specs.Checked.{checked}
-use Rattle.model_eval.specs.Logic.{Book}
-use Rattle.model_eval.specs.AbstractRules.{abstractly}
 use Rattle.model_eval_laws.specs.Agreement.{Agrees, Closed, StandsIn, IsClosedWorld, HasGrown}
 
 abbrev pub IsSteps : {S : Type 0} → Stop S → Type 0
@@ -32,10 +30,6 @@ pub record AgreesUntilLimit : Type 0 where
       → Agrees IsSteps (checked w packages k d form variables state) (checked w packages l d form variables state)
   pub depth : (w : World) (packages : List Package) (k d e : ℕ) (form : Core) (variables : Variables ℕ) (state : State ℕ) → d ≤ e
       → Agrees IsDepth (checked w packages k d form variables state) (checked w packages k e form variables state)
-  pub abstract_steps : (b : Book) (budget k l d : ℕ) (form : Core) (variables : Variables QualifiedName) (state : State QualifiedName) → k ≤ l
-      → Agrees IsSteps (abstractly b budget k d form variables state) (abstractly b budget l d form variables state)
-  pub abstract_depth : (b : Book) (budget k d e : ℕ) (form : Core) (variables : Variables QualifiedName) (state : State QualifiedName) → d ≤ e
-      → Agrees IsDepth (abstractly b budget k d form variables state) (abstractly b budget k e form variables state)
 
 -- a world that grows keeps the outcome of each form that it had names for
 pub record KeepsOutcomes : Type 0 where

@@ -2,12 +2,10 @@
 #![tactic(auto)]
 
 ghost use Rattle.model_eval_laws.specs.Laws.{AgreesUntilLimit, KeepsOutcomes};
-ghost use Rattle.model_eval_laws.specs.Counting.{CountsCalls, AbstractCountsCalls};
-ghost use Rattle.model_eval_laws.specs.Budgets.{IsSameAtLargerBudgets, AbstractBudgetsAgree};
+ghost use Rattle.model_eval_laws.specs.Counting.{CountsCalls};
 ghost use Rattle.model_eval_laws.specs.Cutting.{IsCut};
 ghost use Rattle.model_eval_laws.specs.Opening.{OpensForms};
 ghost use Rattle.model_eval_laws.specs.Scope.{LeavesOthers};
-ghost use Rattle.model_eval_laws.specs.Standing.{FunctionsAreAlike};
 ghost use Rattle.model_eval_laws.specs.Words.{IsStobjLetWord};
 
 /// A larger limit of calls or of open forms changes nothing, unless the smaller one was met.
@@ -29,28 +27,10 @@ pub fn calls_are_counted()
     ensures { CountsCalls }
 {}
 
-/// The same of abstract evaluation, where it has an outcome.
-#[tactic(auto, using(crate::proofs::AbstractCountLemmas::abstract_counts_calls))]
-pub fn abstract_calls_are_counted()
-    ensures { AbstractCountsCalls }
-{}
-
 /// An evaluation does not depend on the objects that no variable has, and leaves them as they are.
 #[tactic(auto, using(crate::proofs::FrameLemmas::leaves_others))]
 pub fn other_objects_are_left()
     ensures { LeavesOthers }
-{}
-
-/// The logic value is the same at every larger budget, and is one at most.
-#[tactic(auto, using(crate::proofs::BudgetLemmas::is_same_at_larger_budgets))]
-pub fn larger_budgets_give_the_same()
-    ensures { IsSameAtLargerBudgets }
-{}
-
-/// An outcome of abstract evaluation, and the list of a new object, are the same at every larger budget.
-#[tactic(auto, using(crate::proofs::AbstractBudgetLemmas::abstract_budgets_agree))]
-pub fn abstract_budgets_agree()
-    ensures { AbstractBudgetsAgree }
 {}
 
 /// No more forms are open at once than the limit.
@@ -69,10 +49,4 @@ pub fn cut_evaluations_come_before()
 #[tactic(auto, using(crate::proofs::WordLemmas::is_stobj_let_word))]
 pub fn stobj_let_is_named()
     ensures { IsStobjLetWord }
-{}
-
-/// No function of an object tells lists apart that stand for one object, and what it writes has the fields of the layout.
-#[tactic(auto, using(crate::proofs::StandingLemmas::functions_are_alike))]
-pub fn functions_are_alike_on_alike_lists()
-    ensures { FunctionsAreAlike }
 {}

@@ -1,7 +1,5 @@
 -- Each row, by computing.
 use Rattle.std.specs.Prelude.{refl}
-use Rattle.model_objects.specs.Object.{Symbol}
-use Rattle.model_symbols.specs.Opening.{truth_name}
 use Rattle.model_prims.specs.Guards.{guard, recognizer_guard, relation_guard, arithmetic_guard, listing_guard, naming_guard}
 use Rattle.model_prims.specs.Values.{wanted, recognized, related, computed, listed, named_by}
 use Rattle.model_prims.specs.Applied.{applied_to, bounded}
@@ -11,17 +9,12 @@ use Rattle.model_eval.specs.Generated.{effect}
 use Rattle.model_eval.specs.Evaluated.{exec_called, called, in_order, all_borrowed, put_back, evaluated}
 use Rattle.model_eval_rows.specs.Books.{AreRight}
 use Rattle.model_eval_rows.specs.Counting.{counting_rows}
-use Rattle.model_eval.specs.AbstractRules.{bounded_value}
-use Rattle.model_eval_rows.specs.Abstractly.{AbstractlyRight, BoundsAreKept, Corresponds}
-use Rattle.model_eval_rows.specs.Abstractly as abstractly
-use Rattle.model_eval.specs.LogicFunctions.{logic_access, logic_update, logic_effect}
-use Rattle.model_eval.specs.Logic.{form_value, form_values, call_within}
-use Rattle.model_eval_rows.specs.Logic.{LogicIsRight, logic_rows, odd_rows}
 use Rattle.model_eval_rows.specs.Types.{TypesAreRight, type_rows}
 use Rattle.model_eval_rows.specs.ShownLists.{ShownAreRight, shown_rows}
 use Rattle.model_eval_rows.specs.Several.{child_rows, congruent_rows}
 use Rattle.model_eval_rows.specs.Abstract.{abstract_rows}
 use Rattle.model_eval_rows.specs.StackMachine.{machine_rows}
+use Rattle.model_eval_rows.specs.Undone.{undone_rows, SymbolsAreUndone}
 use Rattle.model_eval_rows.specs.Nested.{export_rows, family_rows, counted_rows}
 use Rattle.model_symbols.specs.Opening.{opening, acl2_package, common_lisp_symbols, acl2_symbols, common_lisp_text, acl2_text}
 use Rattle.model_eval_rows.specs.Words.{AreNamed}
@@ -59,36 +52,6 @@ pub shown_lists : ShownAreRight shown_rows
 unfolding shown_rows
 shown_lists = record { shown = refl; cells = refl }
 
-pub logic_values : LogicIsRight logic_rows
-unfolding logic_rows recognized related computed listed named_by wanted layout_within logic_access logic_update logic_effect form_value form_values call_within
-logic_values = record { all = refl }
-
-pub odd_lists : LogicIsRight odd_rows
-unfolding odd_rows recognized related computed listed named_by wanted layout_within logic_access logic_update logic_effect form_value form_values call_within
-odd_lists = record { all = refl }
-
-pub abstract_values : AbstractlyRight abstractly.abstract_rows
-unfolding abstractly.abstract_rows guard recognizer_guard relation_guard arithmetic_guard listing_guard naming_guard wanted recognized related computed listed named_by accessed changed lengthened layout_within effect exec_called called in_order all_borrowed put_back evaluated logic_access logic_update logic_effect form_value form_values call_within bounded_value
-abstract_values = record { all = refl }
-
-pub bounds : BoundsAreKept
-unfolding bounded_value
-bounds = record { shifted = refl; argument = refl }
-
-pub corresponding : Corresponds
-unfolding guard recognizer_guard relation_guard arithmetic_guard listing_guard naming_guard wanted recognized related computed listed named_by accessed changed lengthened layout_within effect exec_called called in_order all_borrowed put_back evaluated logic_access logic_update logic_effect form_value form_values call_within bounded_value
-corresponding = record {
-  at_seven = (
-    refl,
-    record {
-      recognized = refl;
-      corresponding = (Symbol truth_name, (10, 2, refl), refl);
-      well_formed = (10, 6, refl);
-    },
-    tt,
-  );
-}
-
 pub stack_machine : AreRight machine_rows
 unfolding machine_rows guard recognizer_guard relation_guard arithmetic_guard listing_guard naming_guard wanted recognized related computed listed named_by applied_to bounded accessed changed lengthened hash_read hash_bound hash_looked_up hash_put hash_removed layout_within effect exec_called called in_order all_borrowed put_back evaluated
 stack_machine = record { all = refl }
@@ -104,6 +67,14 @@ children_of_children = record { all = refl }
 pub many_calls : AreRight counted_rows
 unfolding counted_rows guard recognizer_guard relation_guard arithmetic_guard listing_guard naming_guard wanted recognized related computed listed named_by applied_to bounded accessed changed lengthened hash_read hash_bound hash_looked_up hash_put hash_removed layout_within effect exec_called called in_order all_borrowed put_back evaluated
 many_calls = record { all = refl }
+
+pub undone : AreRight undone_rows
+unfolding undone_rows guard recognizer_guard relation_guard arithmetic_guard listing_guard naming_guard wanted recognized related computed listed named_by applied_to bounded accessed changed lengthened hash_read hash_bound hash_looked_up hash_put hash_removed layout_within effect exec_called called in_order all_borrowed put_back evaluated
+undone = record { all = refl }
+
+pub symbols_undone : SymbolsAreUndone
+unfolding guard recognizer_guard relation_guard arithmetic_guard listing_guard naming_guard wanted recognized related computed listed named_by applied_to bounded accessed changed lengthened hash_read hash_bound hash_looked_up hash_put hash_removed layout_within effect exec_called called in_order all_borrowed put_back evaluated
+symbols_undone = record { stops = λ symbols e. rw e refl }
 
 pub words : AreNamed
 unfolding opening acl2_package common_lisp_symbols acl2_symbols common_lisp_text acl2_text

@@ -1,15 +1,15 @@
 -- An abstract object: (defstobj st$c (val$c :type integer :initially 0)) is its foundation; `val` and `update-val` are exports,
 -- and `twice`, which runs (let ((st$c (update-val$c (val$c st$c) st$c))) (update-val$c v st$c)) with the guard (natp v).
 use Rattle.std.specs.Prelude.{ℕ, List, [], ◌∷◌, ◌++◌, Some, None}
-use Rattle.model_lists.specs.Lists.{ObjectList}
+use Rattle.model_lists.specs.Lists.{StobjList}
 use Rattle.model_terms.specs.Cores.{Core, Var, Let, WithLocal, Mv, cores}
 use Rattle.model_terms.specs.Worlds.{World, Definition, Ordinary, Abstract, OfAbstract}
 use Rattle.model_terms.specs.Worlds as worlds
 use Rattle.model_terms.specs.declared.role.Role.TheVariants as role
 use Rattle.model_terms.specs.declared.role.AbstractRole.{AbstractRole}
 use Rattle.model_terms.specs.declared.role.AbstractRole.TheVariants as abstract_role
-use Rattle.model_eval.specs.Outcomes.{Shown, Plain, Stobj, Stop, Guard, Steps, Depth, Ended, Gives, Stops}
-use Rattle.model_eval_rows.specs.Books.{Row, number, symbol, int, quoted, call, both_hold, always, numbers, primitives, function, generated, object, integer_field, state, natp_word, integerp_word}
+use Rattle.model_eval.specs.Outcomes.{Shown, Plain, Stobj, Stop, Guard, Steps, Depth, Outcome, Gives, Stops}
+use Rattle.model_eval_rows.specs.Books.{Row, number, symbol, int, quoted, call, both_hold, always, numbers, primitives, function, generated, object, integer_field, origin, state, natp_word, integerp_word}
 
 abbrev st : ℕ
 st = 196
@@ -101,41 +101,42 @@ book =
     (Let (st ∷ []) (cores (call twice (Var v ∷ Var st ∷ []) ∷ [])) (call update_val (Var v ∷ Var st ∷ [])))
     ∷ [])
 
-abbrev holding : ℕ → List (ℕ × ObjectList ℕ)
+abbrev holding : ℕ → List (ℕ × StobjList ℕ)
 holding n = (st, numbers (n ∷ [])) ∷ []
 
-abbrev run : ℕ → ℕ → ℕ → Core → Ended ℕ → Row
-run limit depth before form answer = record { world = book; limit = limit; depth = depth; objects = holding before; form = form; answer = answer }
+abbrev run : ℕ → ℕ → ℕ → Core → Outcome ℕ → Row
+run limit depth before form answer = record { world = book; limit = limit; depth = depth; stobjs = holding before; form = form; answer = answer }
 
--- what is given, and what stops inside an export, with all calls and those that no export made
-abbrev gives_of : List (Shown ℕ) → ℕ → ℕ → ℕ → Ended ℕ
+-- what is given, with all calls and those that no export made; and what stops inside an export or not, also with the number of
+-- the outer call before which abstract evaluation is cut
+abbrev gives_of : List (Shown ℕ) → ℕ → ℕ → ℕ → Outcome ℕ
 gives_of values after calls outer = Gives values (state (holding after) calls outer)
 
-abbrev stops_inside : Stop ℕ → ℕ → ℕ → ℕ → ℕ → Ended ℕ
-stops_inside stop name after calls outer = Stops stop (Some name) (state (holding after) calls outer)
+abbrev stops_inside : Stop ℕ → ℕ → ℕ → ℕ → ℕ → ℕ → Outcome ℕ
+stops_inside stop name cut after calls outer = Stops stop (origin (Some name) cut) (state (holding after) calls outer)
 
-abbrev stops_outside : Stop ℕ → ℕ → ℕ → ℕ → Ended ℕ
-stops_outside stop after calls outer = Stops stop None (state (holding after) calls outer)
+abbrev stops_outside : Stop ℕ → ℕ → ℕ → ℕ → ℕ → Outcome ℕ
+stops_outside stop cut after calls outer = Stops stop (origin None cut) (state (holding after) calls outer)
 
 unfoldable pub abstract_rows : List Row
 abstract_rows =
     run 1000 100 0 (call update_val (int 5 ∷ Var st ∷ [])) (gives_of (Stobj st ∷ []) 5 4 3)
     ∷ run 1000 100 5 (call val (Var st ∷ [])) (gives_of (Plain (number 5) ∷ []) 5 3 2)
     -- an export's guard is not inside it
-    ∷ run 1000 100 5 (call update_val (quoted a ∷ Var st ∷ [])) (stops_outside (Guard update_val (Plain (symbol a) ∷ Stobj st ∷ [])) 5 2 2)
+    ∷ run 1000 100 5 (call update_val (quoted a ∷ Var st ∷ [])) (stops_outside (Guard update_val (Plain (symbol a) ∷ Stobj st ∷ [])) 1 5 2 2)
     -- nor is the count of the exec function's call
-    ∷ run 3 100 0 (call update_val (int 5 ∷ Var st ∷ [])) (stops_outside Steps 0 3 3)
+    ∷ run 3 100 0 (call update_val (int 5 ∷ Var st ∷ [])) (stops_outside Steps 1 0 3 3)
     -- the exec function's guard is, and is named with the export's variable
-    ∷ run 1000 100 5 (call twice (quoted a ∷ Var st ∷ [])) (stops_inside (Guard twice_c (Plain (symbol a) ∷ Stobj st ∷ [])) twice 5 4 2)
+    ∷ run 1000 100 5 (call twice (quoted a ∷ Var st ∷ [])) (stops_inside (Guard twice_c (Plain (symbol a) ∷ Stobj st ∷ [])) twice 1 5 4 2)
     -- inside, and in the calls below with the exec function's own variable
-    ∷ run 3 100 5 (call twice (int 6 ∷ Var st ∷ [])) (stops_inside Steps twice 5 3 2)
-    ∷ run 6 100 5 (call twice (int 6 ∷ Var st ∷ [])) (stops_inside Steps twice 5 6 2)
+    ∷ run 3 100 5 (call twice (int 6 ∷ Var st ∷ [])) (stops_inside Steps twice 1 5 3 2)
+    ∷ run 6 100 5 (call twice (int 6 ∷ Var st ∷ [])) (stops_inside Steps twice 1 5 6 2)
     ∷ run 1000 100 5 (call twice (int 6 ∷ Var st ∷ [])) (gives_of (Stobj st ∷ []) 6 7 2)
-    -- the list of the export's object is as it was left
-    ∷ run 9 100 5 (call outermost (int 6 ∷ Var st ∷ [])) (stops_outside Steps 6 9 4)
+    -- in the guard of the second export, the fourth outer call: the list is as the first left it
+    ∷ run 9 100 5 (call outermost (int 6 ∷ Var st ∷ [])) (stops_outside Steps 4 6 9 4)
     ∷ run 1000 100 5 (call outermost (int 6 ∷ Var st ∷ [])) (gives_of (Stobj st ∷ []) 6 12 6)
     -- the exec function opens nothing, its body's form does: with `twice` it is the third here
-    ∷ run 1000 2 5 (call twice (int 6 ∷ Var st ∷ [])) (stops_inside Depth twice 5 4 2)
+    ∷ run 1000 2 5 (call twice (int 6 ∷ Var st ∷ [])) (stops_inside Depth twice 1 5 4 2)
     -- a local abstract object is new
     ∷ run 1000 100 5
     (WithLocal st (x ∷ st ∷ []) (Mv (cores (call val (Var st ∷ []) ∷ Var st ∷ []))) (Var x))

@@ -1,5 +1,5 @@
 -- Worlds of small books, and how rows are written.
-use Rattle.std.specs.Prelude.{◌≡◌, ℕ, List, [], ◌∷◌, map, true, Option, Some, None, pos}
+use Rattle.std.specs.Prelude.{◌≡◌, ℕ, ◌+◌, List, [], ◌∷◌, map, true, Option, Some, None, pos}
 use Rattle.model_objects.specs.Object.{Object, Integer, Symbol}
 use Rattle.model_symbols.specs.Opening.{nil, truth}
 use Rattle.model_prims.specs.Rows.{lisp}
@@ -9,12 +9,12 @@ use Rattle.model_prims.specs.declared.prim.Recognizer.TheVariants as recognizer
 use Rattle.model_prims.specs.declared.prim.Relation.TheVariants as relation
 use Rattle.model_prims.specs.declared.prim.Arithmetic.TheVariants as arithmetic
 use Rattle.model_prims.specs.declared.prim.Listing.TheVariants as listing
-use Rattle.model_lists.specs.Lists.{ObjectList, Value, End, Item}
+use Rattle.model_lists.specs.Lists.{StobjList, Value, End, Item}
 use Rattle.model_lists.specs.Types.{integer_word}
 use Rattle.model_terms.specs.Cores.{Core, Const, If, Call, cores}
 use Rattle.model_terms.specs.Worlds.{World, Definition, Out, Ordinary, Shape, Scalar, Primitive, Defined, Concrete, Generated}
 use Rattle.model_terms.specs.declared.role.Role.{Role}
-use Rattle.model_eval.specs.Outcomes.{Shown, Stop, State, Ended, Gives, Stops}
+use Rattle.model_eval.specs.Outcomes.{Shown, Stop, State, Origin, Outcome, Gives, Stops}
 use Rattle.model_eval.specs.Checked.{checked, begun, live}
 
 -- ---- forms and values
@@ -41,11 +41,11 @@ both_hold a b = If a b (quoted nil)
 abbrev pub always : Core
 always = quoted truth
 
-abbrev pub items : List (ObjectList ℕ) → ObjectList ℕ
+abbrev pub items : List (StobjList ℕ) → StobjList ℕ
 items [] = End
 items (x ∷ xs) = Item x (items xs)
 
-abbrev pub numbers : List ℕ → ObjectList ℕ
+abbrev pub numbers : List ℕ → StobjList ℕ
 numbers ns = items (map (λ n. Value (number n)) ns)
 
 -- ---- primitives, by the numbers of their names
@@ -143,24 +143,29 @@ pub record Row : Type 0 where
   pub world : World
   pub limit : ℕ
   pub depth : ℕ
-  pub objects : List (ℕ × ObjectList ℕ)
+  pub stobjs : List (ℕ × StobjList ℕ)
   pub form : Core
-  pub answer : Ended ℕ
+  pub answer : Outcome ℕ
 
-abbrev pub state : List (ℕ × ObjectList ℕ) → ℕ → ℕ → State ℕ
-state objects calls outer = record { objects = objects; symbols = []; calls = calls; outer = outer }
+abbrev pub state : List (ℕ × StobjList ℕ) → ℕ → ℕ → State ℕ
+state stobjs calls outer = record { stobjs = stobjs; symbols = []; calls = calls; outer = outer }
 
-abbrev pub outcome : Row → Ended ℕ
+abbrev pub outcome : Row → Outcome ℕ
 outcome r =
-    checked r.world [] r.limit r.depth r.form (live r.objects) (begun [] r.objects 0)
+    checked r.world [] r.limit r.depth r.form (live r.stobjs) (begun [] r.stobjs 0)
 
 -- the definitions give each answer
 pub record AreRight (rows : List Row) : Type 0 where
   pub all : map outcome rows ≡ map (λ (r : Row). r.answer) rows
 
--- values, or a stop, after so many calls, none of them inside an export
-abbrev pub gives : List (Shown ℕ) → List (ℕ × ObjectList ℕ) → ℕ → Ended ℕ
-gives values objects calls = Gives values (state objects calls calls)
+-- where a stop came from: the outermost export that it came inside, and the number of the outer call of the outermost export
+-- that was under way, or of the next outer call
+abbrev pub origin : Option ℕ → ℕ → Origin
+origin inside cut = record { inside = inside; cut = cut }
 
-abbrev pub stops : Stop ℕ → List (ℕ × ObjectList ℕ) → ℕ → Ended ℕ
-stops stop objects calls = Stops stop None (state objects calls calls)
+-- values, or a stop, after so many calls, none of them inside an export or of one
+abbrev pub gives : List (Shown ℕ) → List (ℕ × StobjList ℕ) → ℕ → Outcome ℕ
+gives values stobjs calls = Gives values (state stobjs calls calls)
+
+abbrev pub stops : Stop ℕ → List (ℕ × StobjList ℕ) → ℕ → Outcome ℕ
+stops stop stobjs calls = Stops stop (origin None (calls + 1)) (state stobjs calls calls)

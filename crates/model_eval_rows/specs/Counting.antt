@@ -4,7 +4,7 @@ use Rattle.model_terms.specs.Cores.{Core, Var, If, Let, Mv, WithLocal, cores}
 use Rattle.model_terms.specs.Worlds.{World, Ordinary}
 use Rattle.model_terms.specs.Worlds as worlds
 use Rattle.model_terms.specs.declared.role.Role.TheVariants as role
-use Rattle.model_eval.specs.Outcomes.{Plain, Stobj, Guard, Steps, Depth, Ended}
+use Rattle.model_eval.specs.Outcomes.{Plain, Stobj, Guard, Steps, Depth, Outcome}
 use Rattle.model_eval_rows.specs.Books.{Row, number, symbol, int, quoted, call, always, numbers, primitives, function, generated, created_object, integer_field, gives, stops, not_word, integerp_word, plus_word, minus_word, zp_word, natp_word}
 
 abbrev pub st : ℕ
@@ -74,12 +74,12 @@ book =
     ∷ function local (n ∷ []) (Ordinary ∷ []) (Ordinary ∷ []) (call integerp_word (Var n ∷ [])) local_body
     ∷ []))
 
-abbrev run : ℕ → ℕ → ℕ → Core → Ended ℕ → Row
+abbrev run : ℕ → ℕ → ℕ → Core → Outcome ℕ → Row
 run limit depth before form answer = record {
   world = book;
   limit = limit;
   depth = depth;
-  objects = (st, numbers (before ∷ [])) ∷ [];
+  stobjs = (st, numbers (before ∷ [])) ∷ [];
   form = form;
   answer = answer;
 }

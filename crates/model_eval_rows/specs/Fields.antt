@@ -4,14 +4,14 @@ use Rattle.std.specs.Prelude.{ℕ, List, [], ◌∷◌, ◌++◌, true, false, N
 use Rattle.acl_base.specs.declared.layout.Test.TheVariants.{Eql}
 use Rattle.model_objects.specs.Object.{Object, Integer, Symbol, Text, list_onto}
 use Rattle.model_symbols.specs.Opening.{nil, truth}
-use Rattle.model_lists.specs.Lists.{ObjectList, Pairs}
+use Rattle.model_lists.specs.Lists.{StobjList, Pairs}
 use Rattle.model_lists.specs.Types.{integer_word, unsigned_byte_word}
 use Rattle.model_terms.specs.Cores.{Core, Var, Const, Let, MvLet, cores}
 use Rattle.model_terms.specs.Worlds.{World, Ordinary}
 use Rattle.model_terms.specs.Worlds as worlds
 use Rattle.model_terms.specs.declared.role.Role.{Role}
 use Rattle.model_terms.specs.declared.role.Role.TheVariants as role
-use Rattle.model_eval.specs.Outcomes.{Plain, Stobj, Guard, Ended}
+use Rattle.model_eval.specs.Outcomes.{Plain, Stobj, Guard, Outcome}
 use Rattle.model_eval_rows.specs.Books.{Row, number, symbol, int, quoted, call, always, items, numbers, primitives, function, generated, object, gives, stops}
 
 abbrev pub st : ℕ
@@ -133,22 +133,22 @@ book =
     ∷ [])
 
 -- the object with these arrays and pairs
-abbrev listed : List ℕ → List ℕ → List (Object ℕ × Object ℕ) → ObjectList ℕ
+abbrev listed : List ℕ → List ℕ → List (Object ℕ × Object ℕ) → StobjList ℕ
 listed first second pairs = items (numbers first ∷ numbers second ∷ Pairs pairs ∷ [])
 
 abbrev zeros : List ℕ
 zeros = 0 ∷ 0 ∷ 0 ∷ 0 ∷ []
 
-abbrev run : ObjectList ℕ → Core → Ended ℕ → Row
-run before form answer = record { world = book; limit = 1000; depth = 100; objects = (st, before) ∷ []; form = form; answer = answer }
+abbrev run : StobjList ℕ → Core → Outcome ℕ → Row
+run before form answer = record { world = book; limit = 1000; depth = 100; stobjs = (st, before) ∷ []; form = form; answer = answer }
 
-abbrev changes : ObjectList ℕ → Core → ObjectList ℕ → ℕ → Row
+abbrev changes : StobjList ℕ → Core → StobjList ℕ → ℕ → Row
 changes before form after calls = run before form (gives (Stobj st ∷ []) ((st, after) ∷ []) calls)
 
-abbrev value : ObjectList ℕ → Core → Object ℕ → Row
+abbrev value : StobjList ℕ → Core → Object ℕ → Row
 value before form o = run before form (gives (Plain o ∷ []) ((st, before) ∷ []) 1)
 
-abbrev refuses : ObjectList ℕ → ℕ → List (Object ℕ) → Row
+abbrev refuses : StobjList ℕ → ℕ → List (Object ℕ) → Row
 refuses before f args =
     run before (call f (map Const args ++ Var st ∷ [])) (stops (Guard f (map Plain args ++ Stobj st ∷ [])) ((st, before) ∷ []) 1)
 
@@ -200,14 +200,14 @@ array_rows =
 
 -- ---- hash fields
 
-abbrev hashed : List (Object ℕ × Object ℕ) → ObjectList ℕ
+abbrev hashed : List (Object ℕ × Object ℕ) → StobjList ℕ
 hashed pairs = listed zeros [] pairs
 
 -- (h-put 'k 1 st) and then (h-put 'k 2 st) left both pairs
-abbrev shadowed : ObjectList ℕ
+abbrev shadowed : StobjList ℕ
 shadowed = hashed ((key, number 2) ∷ (key, number 1) ∷ [])
 
-abbrev two_keys : ObjectList ℕ
+abbrev two_keys : StobjList ℕ
 two_keys = hashed ((key, number 2) ∷ (number 5, symbol x) ∷ (key, number 1) ∷ [])
 
 unfoldable pub hash_rows : List Row

@@ -5,8 +5,7 @@ pub mod Several
 pub mod Abstract
 pub mod Types
 pub mod ShownLists
-pub mod Logic
-pub mod Abstractly
 pub mod StackMachine
 pub mod Nested
+pub mod Undone
 pub mod Words

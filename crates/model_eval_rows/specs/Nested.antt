@@ -8,18 +8,18 @@ use Rattle.model_prims.specs.declared.prim.Recognizer.TheVariants as recognizer
 use Rattle.model_prims.specs.declared.prim.Relation.TheVariants as relation
 use Rattle.model_prims.specs.declared.prim.Arithmetic.TheVariants as arithmetic
 use Rattle.model_prims.specs.declared.prim.Listing.TheVariants as listing
-use Rattle.model_lists.specs.Lists.{ObjectList, Value}
+use Rattle.model_lists.specs.Lists.{StobjList, Value}
 use Rattle.model_lists.specs.Types.{unsigned_byte_word}
 use Rattle.model_terms.specs.Cores.{Core, Var, Const, If, Let, Mv, StobjLet, WithLocal, cores}
 use Rattle.model_terms.specs.Worlds.{World, Definition, Ordinary, Abstract, OfAbstract}
 use Rattle.model_terms.specs.Worlds as worlds
 use Rattle.model_terms.specs.declared.role.Role.TheVariants as role
 use Rattle.model_terms.specs.declared.role.AbstractRole.TheVariants as abstract_role
-use Rattle.model_eval.specs.Outcomes.{Plain, Stobj, Stop, Guard, Steps, Range, Large, Ended, Gives, Stops}
-use Rattle.model_eval_rows.specs.Books.{Row, number, symbol, int, quoted, call, both_hold, always, items, numbers, primitives, primitive, function, generated, object, integer_field, gives, stops, state, car_word, cons_word, not_word, below_word, plus_word, minus_word, zp_word, natp_word}
+use Rattle.model_eval.specs.Outcomes.{Plain, Stobj, Stop, Guard, Steps, Range, Large, Outcome, Gives, Stops}
+use Rattle.model_eval_rows.specs.Books.{Row, number, symbol, int, quoted, call, both_hold, always, items, numbers, primitives, primitive, function, generated, object, integer_field, gives, stops, origin, state, car_word, cons_word, not_word, below_word, plus_word, minus_word, zp_word, natp_word}
 
-abbrev run : World → ℕ → List (ℕ × ObjectList ℕ) → Core → Ended ℕ → Row
-run world limit before form answer = record { world = world; limit = limit; depth = 2048; objects = before; form = form; answer = answer }
+abbrev run : World → ℕ → List (ℕ × StobjList ℕ) → Core → Outcome ℕ → Row
+run world limit before form answer = record { world = world; limit = limit; depth = 2048; stobjs = before; form = form; answer = answer }
 
 abbrev v : ℕ
 v = 250
@@ -115,15 +115,16 @@ exporting =
     ∷ exported deep (v ∷ st ∷ []) always deep_c
     ∷ [])
 
-abbrev holding : ℕ → List (ℕ × ObjectList ℕ)
+abbrev holding : ℕ → List (ℕ × StobjList ℕ)
 holding n = (st, numbers (n ∷ [])) ∷ []
 
-abbrev answers : ℕ → ℕ → Core → Ended ℕ → Row
+abbrev answers : ℕ → ℕ → Core → Outcome ℕ → Row
 answers limit f form answer = run exporting limit (holding 4) (call f (form ∷ Var st ∷ [])) answer
 
--- a stop with the export that it is inside, the number that the object holds, all calls, and those that no export made
-abbrev stopped : Stop ℕ → Option ℕ → ℕ → ℕ → ℕ → Ended ℕ
-stopped stop inside after calls outer = Stops stop inside (state (holding after) calls outer)
+-- a stop in the first outer call, an export's, with the export that it is inside, the number that the object holds, all calls,
+-- and those that no export made
+abbrev stopped : Stop ℕ → Option ℕ → ℕ → ℕ → ℕ → Outcome ℕ
+stopped stop inside after calls outer = Stops stop (origin inside 1) (state (holding after) calls outer)
 
 unfoldable pub export_rows : List Row
 export_rows =
@@ -172,7 +173,7 @@ family =
     ∷ generated par_of top 0 role.Access (worlds.Stobj top ∷ []) (worlds.Stobj par ∷ [])
     ∷ [])
 
-abbrev tree : ℕ → List (ℕ × ObjectList ℕ)
+abbrev tree : ℕ → List (ℕ × StobjList ℕ)
 tree n = (top, items (items (items (numbers (0 ∷ []) ∷ numbers (n ∷ []) ∷ []) ∷ []) ∷ [])) ∷ []
 
 -- (stobj-let ((par (par-of top))) (par) (stobj-let ((kid (ki 1 par))) (kid) (update-kid 9 kid) par) top)
@@ -292,7 +293,7 @@ abbrev from : ℕ → ℕ → List ℕ
 from zero m = []
 from (suc k) m = m ∷ from k (m + 1)
 
-abbrev written : List ℕ → ℕ → List (ℕ × ObjectList ℕ)
+abbrev written : List ℕ → ℕ → List (ℕ × StobjList ℕ)
 written ns total = (st, items (numbers ns ∷ Value (number total) ∷ [])) ∷ []
 
 abbrev greatest : Object ℕ

@@ -2,12 +2,12 @@
 -- (defstobj kid2 (val2 :type integer :initially 0) :congruent-to kid), (defstobj par (k :type (array kid (3))) (one :type kid)
 -- (m :type (array kid (2)))).
 use Rattle.std.specs.Prelude.{ℕ, List, [], ◌∷◌, ◌++◌, Some, None}
-use Rattle.model_lists.specs.Lists.{ObjectList, End}
+use Rattle.model_lists.specs.Lists.{StobjList, End}
 use Rattle.model_terms.specs.Cores.{Core, Var, Let, Mv, StobjLet, cores}
 use Rattle.model_terms.specs.Worlds.{World, Ordinary}
 use Rattle.model_terms.specs.Worlds as worlds
 use Rattle.model_terms.specs.declared.role.Role.TheVariants as role
-use Rattle.model_eval.specs.Outcomes.{Plain, Stobj, Guard, Steps, Depth, Ended}
+use Rattle.model_eval.specs.Outcomes.{Plain, Stobj, Guard, Steps, Depth, Outcome}
 use Rattle.model_eval.specs.Evaluated.{stobj_let_word}
 use Rattle.model_eval_rows.specs.Books.{Row, number, symbol, int, quoted, call, both_hold, always, items, numbers, primitives, function, generated, object, integer_field, gives, stops, natp_word, below_word}
 
@@ -133,21 +133,21 @@ book =
     ∷ function both (kid ∷ kid2 ∷ []) (worlds.Stobj kid ∷ worlds.Stobj kid2 ∷ []) (worlds.Stobj kid ∷ worlds.Stobj kid2 ∷ []) always both_body
     ∷ [])
 
-abbrev pub one_field : ℕ → ObjectList ℕ
+abbrev pub one_field : ℕ → StobjList ℕ
 one_field n = numbers (n ∷ [])
 
-abbrev pub parent : ℕ → ℕ → ℕ → ℕ → ObjectList ℕ
+abbrev pub parent : ℕ → ℕ → ℕ → ℕ → StobjList ℕ
 parent a b c d =
     items (items (one_field a ∷ one_field b ∷ one_field c ∷ []) ∷ one_field d ∷ items (one_field 0 ∷ one_field 0 ∷ []) ∷ [])
 
 -- kid, kid2 and par
-abbrev pub family : ℕ → ℕ → ObjectList ℕ → List (ℕ × ObjectList ℕ)
+abbrev pub family : ℕ → ℕ → StobjList ℕ → List (ℕ × StobjList ℕ)
 family a b p = (kid, one_field a) ∷ (kid2, one_field b) ∷ (par, p) ∷ []
 
-abbrev run : ℕ → ℕ → List (ℕ × ObjectList ℕ) → Core → Ended ℕ → Row
-run limit depth before form answer = record { world = book; limit = limit; depth = depth; objects = before; form = form; answer = answer }
+abbrev run : ℕ → ℕ → List (ℕ × StobjList ℕ) → Core → Outcome ℕ → Row
+run limit depth before form answer = record { world = book; limit = limit; depth = depth; stobjs = before; form = form; answer = answer }
 
-abbrev new : List (ℕ × ObjectList ℕ)
+abbrev new : List (ℕ × StobjList ℕ)
 new = family 0 0 (parent 0 0 0 0)
 
 abbrev pub call_two : ℕ → ℕ → Core

@@ -3,7 +3,7 @@ use Rattle.std.specs.Prelude.{◌≡◌, ℕ, ◌-◌, ◌^◌, List, [], ◌∷
 use Rattle.model_objects.specs.Object.{Object, Symbol, Text, Pair, list_onto}
 use Rattle.model_symbols.specs.Symbols.{QualifiedName}
 use Rattle.model_symbols.specs.Opening.{nil, truth_name, nil_name}
-use Rattle.model_lists.specs.Lists.{ObjectList, Value, Pairs, End}
+use Rattle.model_lists.specs.Lists.{StobjList, Value, Pairs, End}
 use Rattle.model_lists.specs.Normal.{shown, held_cells}
 use Rattle.model_eval_rows.specs.Books.{number, symbol, items, numbers}
 
@@ -14,7 +14,7 @@ symbols =
     ∷ record { home = codes "A"; name = codes "Y" } ∷ []
 
 pub record ShownRow : Type 0 where
-  pub list : ObjectList ℕ
+  pub list : StobjList ℕ
   pub shown : Object ℕ
   pub cells : ℕ
 
@@ -22,7 +22,7 @@ pub record ShownAreRight (rows : List ShownRow) : Type 0 where
   pub shown : map (λ (r : ShownRow). shown symbols r.list) rows ≡ map (λ (r : ShownRow). r.shown) rows
   pub cells : map (λ (r : ShownRow). held_cells symbols r.list) rows ≡ map (λ (r : ShownRow). r.cells) rows
 
-abbrev row : ObjectList ℕ → Object ℕ → ℕ → ShownRow
+abbrev row : StobjList ℕ → Object ℕ → ℕ → ShownRow
 row list shown cells = record { list = list; shown = shown; cells = cells }
 
 abbrev list : List (Object ℕ) → Object ℕ

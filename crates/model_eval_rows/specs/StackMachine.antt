@@ -8,13 +8,13 @@ use Rattle.model_prims.specs.declared.prim.Prim.TheVariants.{Recognizer, Relatio
 use Rattle.model_prims.specs.declared.prim.Recognizer.TheVariants as recognizer
 use Rattle.model_prims.specs.declared.prim.Relation.TheVariants as relation
 use Rattle.model_prims.specs.declared.prim.Listing.TheVariants as listing
-use Rattle.model_lists.specs.Lists.{ObjectList, Value, Pairs}
+use Rattle.model_lists.specs.Lists.{StobjList, Value, Pairs}
 use Rattle.model_lists.specs.Types.{integer_word, signed_byte_word}
 use Rattle.model_terms.specs.Cores.{Core, Var, Const, If, Let, Mv, MvLet, cores}
 use Rattle.model_terms.specs.Worlds.{World, Definition, Ordinary}
 use Rattle.model_terms.specs.Worlds as worlds
 use Rattle.model_terms.specs.declared.role.Role.TheVariants as role
-use Rattle.model_eval.specs.Outcomes.{Stobj, Guard, Ended}
+use Rattle.model_eval.specs.Outcomes.{Stobj, Guard, Outcome}
 use Rattle.model_eval_rows.specs.Books.{Row, number, symbol, quoted, call, both_hold, always, items, numbers, primitives, primitive, function, generated, object, gives, stops, car_word, cons_word, plus_word}
 
 -- ---- names
@@ -205,7 +205,7 @@ abbrev names : List (Object ℕ × Object ℕ)
 names = (symbol y, number 4) ∷ (symbol x, number 3) ∷ []
 
 -- the machine with this stack, and these numbers at the places 3 and 4
-abbrev machine : List ℕ → ℕ → ℕ → ObjectList ℕ
+abbrev machine : List ℕ → ℕ → ℕ → StobjList ℕ
 machine stack third fourth =
     items
     (Value (number 0) ∷ Value (list (map number stack)) ∷ numbers (0 ∷ 0 ∷ 0 ∷ third ∷ fourth ∷ replicate 11 0) ∷ Pairs names ∷ Value (Symbol nil) ∷ [])
@@ -213,12 +213,12 @@ machine stack third fourth =
 abbrev instruction : ℕ → List (Object ℕ) → Object ℕ
 instruction op args = list (Symbol op ∷ args)
 
-abbrev runs : ObjectList ℕ → List (Object ℕ) → Ended ℕ → Row
+abbrev runs : StobjList ℕ → List (Object ℕ) → Outcome ℕ → Row
 runs before program answer = record {
   world = book;
   limit = 1000000;
   depth = 2048;
-  objects = (sm, before) ∷ [];
+  stobjs = (sm, before) ∷ [];
   form = call run_code (Const (list program) ∷ Var sm ∷ []);
   answer = answer;
 }

@@ -3,11 +3,9 @@
 
 ghost use Rattle.model_eval_rows.specs.Books.{AreRight};
 ghost use Rattle.model_eval_rows.specs.Counting.{counting_rows};
-ghost use Rattle.model_eval_rows.specs.Abstractly.{AbstractlyRight, BoundsAreKept, Corresponds};
-ghost use Rattle.model_eval_rows.specs.Abstractly as abstractly;
-ghost use Rattle.model_eval_rows.specs.Logic.{LogicIsRight, logic_rows, odd_rows};
 ghost use Rattle.model_eval_rows.specs.StackMachine.{machine_rows};
 ghost use Rattle.model_eval_rows.specs.Nested.{export_rows, family_rows, counted_rows};
+ghost use Rattle.model_eval_rows.specs.Undone.{undone_rows, SymbolsAreUndone};
 ghost use Rattle.model_eval_rows.specs.Types.{TypesAreRight, type_rows};
 ghost use Rattle.model_eval_rows.specs.ShownLists.{ShownAreRight, shown_rows};
 ghost use Rattle.model_eval_rows.specs.Several.{child_rows, congruent_rows};
@@ -63,36 +61,6 @@ pub fn shown_lists()
     ensures { ShownAreRight shown_rows }
 {}
 
-/// Logic values: no guard, and a budget of calls.
-#[tactic(auto, using(crate::proofs::Computed::logic_values))]
-pub fn logic_values()
-    ensures { LogicIsRight logic_rows }
-{}
-
-/// The functions of an object in the logic, on lists that no object has.
-#[tactic(auto, using(crate::proofs::Computed::odd_lists))]
-pub fn odd_lists()
-    ensures { LogicIsRight odd_rows }
-{}
-
-/// Abstract evaluation of exports, and of a new abstract object.
-#[tactic(auto, using(crate::proofs::Computed::abstract_values))]
-pub fn abstract_values()
-    ensures { AbstractlyRight abstractly.abstract_rows }
-{}
-
-/// What a logic function made too wide is shifted as it is, and is no result itself.
-#[tactic(auto, using(crate::proofs::Computed::bounds))]
-pub fn bounds_are_kept()
-    ensures { BoundsAreKept }
-{}
-
-/// A foundation's list and an abstract list that correspond.
-#[tactic(auto, using(crate::proofs::Computed::corresponding))]
-pub fn corresponding_lists()
-    ensures { Corresponds }
-{}
-
 /// The programs of a small stack machine.
 #[tactic(auto, using(crate::proofs::Computed::stack_machine))]
 pub fn stack_machine()
@@ -115,6 +83,18 @@ pub fn children_of_children()
 #[tactic(auto, using(crate::proofs::Computed::many_calls))]
 pub fn many_calls()
     ensures { AreRight counted_rows }
+{}
+
+/// Exports that stop: where the stop came from, and that their object is as it was.
+#[tactic(auto, using(crate::proofs::Computed::undone))]
+pub fn undone_exports()
+    ensures { AreRight undone_rows }
+{}
+
+/// An export that stops as there is no room for one more symbol.
+#[tactic(auto, using(crate::proofs::Computed::symbols_undone))]
+pub fn exports_undone_without_room_for_symbols()
+    ensures { SymbolsAreUndone }
 {}
 
 /// The primitives that rows call have the numbers of their names.

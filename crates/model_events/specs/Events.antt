@@ -5,9 +5,9 @@ use Rattle.model_symbols.specs.Symbols.{Package, package_at}
 use Rattle.model_terms.specs.Worlds.{World, Definition, Descriptor, AbstractDescriptor, name_of}
 use Rattle.model_expansion.specs.Words.{in_package_word, defpkg_word, defconst_word, defmacro_word, mutual_recursion_word, defstobj_word, defabsstobj_word}
 use Rattle.model_expansion.specs.Expansion.{Setting, Progress}
-use Rattle.model_stobjs.specs.Answers.{Answer, Grants, unless, then_grant}
+use Rattle.model_stobjs.specs.Answers.{EventResult, Grants, unless, then_grant}
 use Rattle.model_stobjs.specs.Objects.{descriptor_read}
-use Rattle.model_stobjs.specs.Entries.{object_entries}
+use Rattle.model_stobjs.specs.Entries.{stobj_entries}
 use Rattle.model_events.specs.Functions.{functions_read}
 use Rattle.model_events.specs.Macros.{macro_read}
 use Rattle.model_events.specs.Constants.{constant_read, package_read, current_read}
@@ -49,29 +49,29 @@ module _ (s : Standing) where
   names_said head (d ∷ ds) = if nat_eq head mutual_recursion_word then Names (map name_of (d ∷ ds)) else Name (name_of d)
 
   -- definitions of functions, macros or constants
-  abbrev pub definitions_admitted : ℕ → World → Progress → Answer Admitted
+  abbrev pub definitions_admitted : ℕ → World → Progress → EventResult Admitted
   definitions_admitted head entries p = Grants (record { standing = defining entries; created = None; said = names_said head entries }) p
 
-  abbrev pub object_admitted : Descriptor → Progress → Answer Admitted
-  object_admitted d p = Grants (record { standing = defining (object_entries s.world d); created = Some d.name; said = Name d.name }) p
+  abbrev pub object_admitted : Descriptor → Progress → EventResult Admitted
+  object_admitted d p = Grants (record { standing = defining (stobj_entries s.world d); created = Some d.name; said = Name d.name }) p
 
-  abbrev pub obligations_admitted : AbstractDescriptor → List Obligation → Progress → Answer Admitted
+  abbrev pub obligations_admitted : AbstractDescriptor → List Obligation → Progress → EventResult Admitted
   obligations_admitted d os p =
       unless (too_large os) (Grants (record { standing = defining (abstract_entries s.world d); created = Some d.name; said = Obliged d.name os })) p
 
-  abbrev pub abstract_admitted : AbstractDescriptor → Progress → Answer Admitted
+  abbrev pub abstract_admitted : AbstractDescriptor → Progress → EventResult Admitted
   abstract_admitted d p = obligations_admitted d (obligations s.world p.symbols d) p
 
-  abbrev pub package_admitted : Package → Progress → Answer Admitted
+  abbrev pub package_admitted : Package → Progress → EventResult Admitted
   package_admitted q p =
       Grants (record { standing = record s { packages = s.packages ++ q ∷ [] }; created = None; said = PackageName q.name }) p
 
-  abbrev pub current_admitted : ℕ → Progress → Answer Admitted
+  abbrev pub current_admitted : ℕ → Progress → EventResult Admitted
   current_admitted n p =
       Grants (record { standing = record s { current = n }; created = None; said = PackageName (package_at s.packages n).name }) p
 
   -- an event with this head, from what stands behind it
-  unfoldable pub admitted : Limits → ℕ → Object ℕ → Progress → Answer Admitted
+  unfoldable pub admitted : Limits → ℕ → Object ℕ → Progress → EventResult Admitted
   admitted k head d p =
       if nat_eq head in_package_word then then_grant (current_read s.packages d p) current_admitted
       else if nat_eq head defpkg_word then then_grant (package_read (setting k) d p) package_admitted

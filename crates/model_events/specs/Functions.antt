@@ -15,7 +15,7 @@ use Rattle.model_expansion.specs.Forms.{elements, each, is, symbol}
 use Rattle.model_expansion.specs.Faults.{Refusal, BadShape, Expand, BadDeclare, Thread}
 use Rattle.model_expansion.specs.Layers.{GuardItem}
 use Rattle.model_expansion.specs.Expansion.{Setting, Progress, Expanded, Makes, then_make, expanded, expanded_guard}
-use Rattle.model_stobjs.specs.Answers.{Answer, Grants, unless, needing, expanding, first_given}
+use Rattle.model_stobjs.specs.Answers.{EventResult, Grants, unless, needing, expanding, first_given}
 use Rattle.model_stobjs.specs.Heads.{name_in_use, bad_name}
 use Rattle.model_events.specs.Declarations.{items_and_body, formals_of, formals_fault, Declared, declarations}
 
@@ -168,19 +168,19 @@ abbrev pub members : List Candidate → List Member
 members cs = map (λ (c : Candidate). c.member) cs
 
 -- the new entries, once the rules hold
-abbrev pub ruled : World → List Candidate → List (ℕ × Signature) → Progress → Answer World
+abbrev pub ruled : World → List Candidate → List (ℕ × Signature) → Progress → EventResult World
 ruled w cs known p =
     unless (option_map Thread (clique_fault (w ++ map (signed known) cs) 0 (members cs))) (Grants (map (defined known) cs)) p
 
-abbrev pub candidates_then : World → List Candidate → Progress → Answer World
+abbrev pub candidates_then : World → List Candidate → Progress → EventResult World
 candidates_then w cs p = ruled w cs (signatures w cs) p
 
-abbrev pub drafts_then : Setting → List Draft → Progress → Answer World
+abbrev pub drafts_then : Setting → List Draft → Progress → EventResult World
 drafts_then x ds p = expanding (all_expanded (record x { world = with_names x.world ds }) ds [] p) (candidates_then x.world)
 
-abbrev pub functions_then : Setting → List WrittenFunction → Progress → Answer World
+abbrev pub functions_then : Setting → List WrittenFunction → Progress → EventResult World
 functions_then x fs p = unless (written_fault p.symbols x.world fs) (drafts_then x (drafts_of p.symbols fs)) p
 
 -- the definitions that an event with this head brings
-unfoldable pub functions_read : Setting → ℕ → Object ℕ → Progress → Answer World
+unfoldable pub functions_read : Setting → ℕ → Object ℕ → Progress → EventResult World
 functions_read x head d p = needing (written_functions head d) (Expand (BadShape head)) (functions_then x) p

@@ -12,7 +12,7 @@ use Rattle.model_expansion.specs.Words.{optional_word, rest_mark_word, body_word
 use Rattle.model_expansion.specs.Forms.{elements, each, is, symbol}
 use Rattle.model_expansion.specs.Faults.{Refusal, BadShape, Expand, BadDeclare, Thread}
 use Rattle.model_expansion.specs.Expansion.{Setting, Progress, expanded}
-use Rattle.model_stobjs.specs.Answers.{Answer, Grants, unless, needing, expanding}
+use Rattle.model_stobjs.specs.Answers.{EventResult, Grants, unless, needing, expanding}
 use Rattle.model_stobjs.specs.Heads.{name_in_use, bad_name}
 use Rattle.model_stobjs.specs.Objects.{before_first, from_first}
 use Rattle.model_events.specs.Declarations.{items_and_body, formals_of, formals_fault, declarations}
@@ -28,7 +28,7 @@ pub record WrittenFormals : Type 0 where
   pub required : List (Object ℕ)
   pub optional : List WrittenOptional
   pub rest : Option (Object ℕ)
-  pub keys : List WrittenOptional
+  pub keys : Option (List WrittenOptional)  -- where the mark stands
 
 pub record WrittenMacro : Type 0 where
   pub name : Object ℕ
@@ -61,10 +61,10 @@ written_optional (Pair a d) = option_and_then optional_in (elements (Pair a d))
 written_optional o = Some (record { name = o; default = Symbol nil; supplied = None })
 
 -- the formals behind a mark, where it stands next, and what is left
-abbrev pub marked_section : ℕ → List (Object ℕ) → Option (List WrittenOptional × List (Object ℕ))
-marked_section mark [] = Some ([], [])
+abbrev pub marked_section : ℕ → List (Object ℕ) → Option (Option (List WrittenOptional) × List (Object ℕ))
+marked_section mark [] = Some (None, [])
 marked_section mark (m ∷ os) =
-    if is mark m then option_map (λ fs. (fs, from_first is_mark os)) (each written_optional (before_first is_mark os)) else Some ([], m ∷ os)
+    if is mark m then option_map (λ fs. (Some fs, from_first is_mark os)) (each written_optional (before_first is_mark os)) else Some (None, m ∷ os)
 
 -- one formal behind the mark of the rest
 abbrev pub rest_section : List (Object ℕ) → Option (Option (Object ℕ) × List (Object ℕ))
@@ -81,8 +81,8 @@ all_taken f (o ∷ os) = None
 -- required formals, then the marks in their order, each at most once
 abbrev pub written_formals : List (Object ℕ) → Option WrittenFormals
 written_formals os =
-    option_and_then (λ (opt : List WrittenOptional × List (Object ℕ)). option_and_then (λ (r : Option (Object ℕ) × List (Object ℕ)). option_and_then (λ (ks : List WrittenOptional × List (Object ℕ)).
-    all_taken (record { required = before_first is_mark os; optional = opt.0; rest = r.0; keys = ks.0 }) ks.1)
+    option_and_then (λ (opt : Option (List WrittenOptional) × List (Object ℕ)). option_and_then (λ (r : Option (Object ℕ) × List (Object ℕ)). option_and_then (λ (ks : Option (List WrittenOptional) × List (Object ℕ)).
+    all_taken (record { required = before_first is_mark os; optional = unwrap_or opt.0 []; rest = r.0; keys = ks.0 }) ks.1)
     (marked_section key_word r.1)) (rest_section opt.1)) (marked_section optional_word (from_first is_mark os))
 
 abbrev pub written_in : List (Object ℕ) → Option WrittenMacro
@@ -102,7 +102,7 @@ optional_objects fs = flat_map (λ (f : WrittenOptional). f.name ∷ option_to_l
 
 -- all formals, in the order of text
 abbrev pub formal_objects : WrittenFormals → List (Object ℕ)
-formal_objects f = f.required ++ (optional_objects f.optional ++ (option_to_list f.rest ++ optional_objects f.keys))
+formal_objects f = f.required ++ (optional_objects f.optional ++ (option_to_list f.rest ++ optional_objects (unwrap_or f.keys [])))
 
 abbrev pub number : Object ℕ → ℕ
 number o = unwrap_or (symbol o) nil
@@ -115,7 +115,7 @@ macro_formals f = record {
   required = map number f.required;
   optional = map optional_formal f.optional;
   rest = option_map number f.rest;
-  keys = map optional_formal f.keys;
+  keys = option_map (map optional_formal) f.keys;
 }
 
 -- ---- all in order
@@ -129,13 +129,13 @@ written_fault symbols w m =
     option_or (bad_name symbols (m.name ∷ []))
     (option_or (name_in_use w (number m.name ∷ [])) (option_or (formals_fault symbols (formal_objects m.formals)) (bad_declaration symbols m)))
 
-abbrev pub body_then : World → WrittenMacro → Core → Progress → Answer World
+abbrev pub body_then : World → WrittenMacro → Core → Progress → EventResult World
 body_then w m body p =
     let formals = macro_formals m.formals in unless (option_map Thread (macro_fault w formals body)) (Grants (Macro (number m.name) formals body ∷ [])) p
 
-abbrev pub macro_then : Setting → WrittenMacro → Progress → Answer World
+abbrev pub macro_then : Setting → WrittenMacro → Progress → EventResult World
 macro_then x m p = unless (written_fault p.symbols x.world m) (λ after. expanding (expanded x m.body after) (body_then x.world m)) p
 
 -- the definition of a macro, from what stands behind the head
-unfoldable pub macro_read : Setting → Object ℕ → Progress → Answer World
+unfoldable pub macro_read : Setting → Object ℕ → Progress → EventResult World
 macro_read x d p = needing (written_macro d) (Expand (BadShape defmacro_word)) (macro_then x) p

@@ -11,7 +11,7 @@ use Rattle.model_terms.specs.Cores.{Core, Cores, cores, Var, Const}
 use Rattle.model_terms.specs.Cores as core
 use Rattle.model_terms.specs.Worlds.{World, Definition, Function, OptionalFormal, MacroFormals, definition, Primitive, Defined, Macro, Constant, Concrete, Generated, Abstract, OfAbstract, Named, Signed}
 use Rattle.model_terms.specs.Faults.{formal_names}
-use Rattle.model_eval.specs.Outcomes.{Shown, Stop, Steps, Depth, State, Ended, Gives, Stops, Unknown}
+use Rattle.model_eval.specs.Outcomes.{Shown, Stop, Steps, Depth, Origin, here, State, Outcome, Gives, Stops, Unknown}
 use Rattle.model_eval.specs.Scopes.{bound, plain, single, object_of}
 use Rattle.model_eval.specs.Checked.{checked, begun}
 use Rattle.model_expansion.specs.Forms.{elements, list, name_of, is_key, is_self_evaluating}
@@ -36,10 +36,19 @@ pub record Progress : Type 0 where
   pub calls : ℕ
   pub outer : ℕ
   pub symbols : List QualifiedName
+  pub last : Option Origin  -- of the last evaluation that was made, where it stopped, or where it would have stopped next
+  pub cut : ℕ  -- of the evaluation of the command's own form; 1 where none was made
+
+abbrev pub at_start : List QualifiedName → Progress
+at_start symbols = record { calls = 0; outer = 0; symbols = symbols; last = None; cut = 1 }
 
 -- after an evaluation that began there
-abbrev pub progress_after : Progress → State ℕ → Progress
-progress_after p state = record { calls = state.calls; outer = p.outer + state.outer; symbols = state.symbols }
+abbrev pub progress_after : Progress → Origin → State ℕ → Progress
+progress_after p origin state = record { calls = state.calls; outer = p.outer + state.outer; symbols = state.symbols; last = Some origin; cut = p.cut }
+
+-- after that of the command's own form
+abbrev pub evaluated_to : Progress → Origin → State ℕ → Progress
+evaluated_to p origin state = record (progress_after p origin state) { cut = origin.cut }
 
 pub data Expanded (A : Type 0) : Type 0 where
   Makes : A → Progress → Expanded A
@@ -132,13 +141,13 @@ module _ (symbols : List QualifiedName) where
   abbrev pub keys_taken : List OptionalFormal → List (Object ℕ) → Option (List (Object ℕ))
   keys_taken fs os = option_and_then (λ ps. if keys_fit fs ps then Some (all_key_values fs ps) else None) (key_pairs os)
 
-  -- what is left goes to the rest formal, and to the keys where there are any
-  abbrev pub last_taken : Option ℕ → List OptionalFormal → List (Object ℕ) → Option (List (Object ℕ))
-  last_taken None [] [] = Some []
-  last_taken None [] (o ∷ os) = None
-  last_taken (Some x) [] os = Some (list os ∷ [])
-  last_taken None (f ∷ fs) os = keys_taken (f ∷ fs) os
-  last_taken (Some x) (f ∷ fs) os = option_map (λ vs. list os ∷ vs) (keys_taken (f ∷ fs) os)
+  -- what is left goes to the rest formal, and to the keys where `&key` is among the formals
+  abbrev pub last_taken : Option ℕ → Option (List OptionalFormal) → List (Object ℕ) → Option (List (Object ℕ))
+  last_taken None None [] = Some []
+  last_taken None None (o ∷ os) = None
+  last_taken (Some x) None os = Some (list os ∷ [])
+  last_taken None (Some fs) os = keys_taken fs os
+  last_taken (Some x) (Some fs) os = option_map (λ vs. list os ∷ vs) (keys_taken fs os)
 
   abbrev pub after_required : MacroFormals → Taken → Option (List (Object ℕ))
   after_required f t =
@@ -169,9 +178,9 @@ abbrev pub out_of_steps : Settle
 out_of_steps o p = Fails (MacroStopped Steps None) p
 
 -- what an expansion is of the outcome of a macro's body: its value is expanded again
-abbrev pub again : Progress → Ended ℕ → Expanded Made
-again p (Gives values state) = Makes (Again (object_of by_number (single by_number values))) (progress_after p state)
-again p (Stops stop inside state) = Fails (MacroStopped stop inside) (progress_after p state)
+abbrev pub again : Progress → Outcome ℕ → Expanded Made
+again p (Gives values state) = Makes (Again (object_of by_number (single by_number values))) (progress_after p (here state) state)
+again p (Stops stop origin state) = Fails (MacroStopped stop origin.inside) (progress_after p origin state)
 again p Unknown = Fails TooNested p
 
 -- a core form of a shape, or of none
@@ -244,7 +253,7 @@ module _ (x : Setting) where
     of_shape (Some m) = Makes m p
 
   -- the outcome of a macro's body, no form being open
-  abbrev pub body_value : MacroFormals → Core → List (Object ℕ) → Progress → Ended ℕ
+  abbrev pub body_value : MacroFormals → Core → List (Object ℕ) → Progress → Outcome ℕ
   body_value formals body values p =
       checked x.world x.packages x.steps x.depth body (bound (formal_names formals) (plain values) []) (begun p.symbols [] p.calls)
 

@@ -8,7 +8,7 @@ use Rattle.model_objects.specs.Object.{Object, Integer, Symbol, Text, Pair}
 use Rattle.model_symbols.specs.Symbols.{QualifiedName}
 use Rattle.model_terms.specs.Cores.{Core, Cores, Var, Const, If, Let, Mv, MvLet, StobjLet, WithLocal, MustBeEqual, Call, none, more, count}
 use Rattle.model_terms.specs.Worlds.{MacroFormals, Definition, Macro, definition}
-use Rattle.model_eval.specs.Outcomes.{Steps, State, Ended, Gives, Stops, Unknown}
+use Rattle.model_eval.specs.Outcomes.{Steps, State, Outcome, Gives, Stops, Unknown, Origin, here}
 use Rattle.model_eval.specs.Checked.{begun}
 use Rattle.model_eval_laws.specs.Counting.{Grown, Counts}
 use Rattle.model_eval_laws.proofs.Counts.{longer_then, not_less}
@@ -16,7 +16,7 @@ use Rattle.model_eval_laws.proofs.CountLemmas.{counts_calls}
 use Rattle.model_expansion.specs.Forms.{elements}
 use Rattle.model_expansion.specs.Faults.{ExpandFault, MacroArgs, BadShape, MacroStopped, Arity}
 use Rattle.model_expansion.specs.Layers.{Row, core_row, macro_row, CallNode, GuardItem, Holds, Meets, Part, Form, Ready, Rest, Guard, Found, Leaf, Node, Made, Again, Stays, made_of}
-use Rattle.model_expansion.specs.Expansion.{deepest_core, Setting, Progress, progress_after, Expanded, Makes, Fails, then_make, counting, macro_values, Look, Stands, Bad, Use, UserUse, Settle, settles, out_of_steps, again, core_look, call_look, arity_of, function_look, defined_look, macro_look, headed_look, list_look, look_at, built, body_value, used, looked, settled, settle, row_found, head_fault, if_room, ready_fault, ready_faults, ready_found, ready, guard_found, part_found, Grow, grown_all, grown_found, grown}
+use Rattle.model_expansion.specs.Expansion.{deepest_core, Setting, Progress, progress_after, evaluated_to, Expanded, Makes, Fails, then_make, counting, macro_values, Look, Stands, Bad, Use, UserUse, Settle, settles, out_of_steps, again, core_look, call_look, arity_of, function_look, defined_look, macro_look, headed_look, list_look, look_at, built, body_value, used, looked, settled, settle, row_found, head_fault, if_room, ready_fault, ready_faults, ready_found, ready, guard_found, part_found, Grow, grown_all, grown_found, grown}
 use Rattle.model_expansion_laws.specs.Counting.{Advanced, IsOutOfSteps, Advances, ExpansionCounts}
 
 module _ (limit : ℕ) where
@@ -35,8 +35,18 @@ module _ (limit : ℕ) where
   }
 
   -- after an evaluation
-  pub advanced_state : (p : Progress) (state : State ℕ) → Grown limit (begun p.symbols [] p.calls) state → Advanced limit p (progress_after p state)
-  advanced_state p state g = record {
+  pub advanced_state : (p : Progress) (origin : Origin) (state : State ℕ) → Grown limit (begun p.symbols [] p.calls) state → Advanced limit p (progress_after p origin state)
+  advanced_state p origin state g = record {
+    calls = g.calls;
+    within = g.within;
+    outer = omega arith;
+    outer_calls = omega (arith, g.outer_calls);
+    symbols = g.symbols;
+  }
+
+  -- after that of the command's own form
+  pub advanced_to : (p : Progress) (origin : Origin) (state : State ℕ) → Grown limit (begun p.symbols [] p.calls) state → Advanced limit p (evaluated_to p origin state)
+  advanced_to p origin state g = record {
     calls = g.calls;
     within = g.within;
     outer = omega arith;
@@ -91,9 +101,9 @@ module _ (limit : ℕ) where
   looks_settles a (Makes (Stays f) p) go h k = h
   looks_settles a (Fails fault p) go h k = h
 
-  advances_again : (p : Progress) (r : Ended ℕ) → Counts limit (begun p.symbols [] p.calls) r → Advances limit p (again p r)
-  advances_again p (Gives values state) h = advanced_state p state h
-  advances_again p (Stops stop inside state) h = (advanced_state p state h.0, h.1)
+  advances_again : (p : Progress) (r : Outcome ℕ) → Counts limit (begun p.symbols [] p.calls) r → Advances limit p (again p r)
+  advances_again p (Gives values state) h = advanced_state p (here state) state h
+  advances_again p (Stops stop origin state) h = (advanced_state p origin state h.0, h.1)
   advances_again p Unknown h = absurd h
 
 -- ---- faults that are none of steps

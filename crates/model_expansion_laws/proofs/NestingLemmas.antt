@@ -6,7 +6,7 @@ use Rattle.model_objects.specs.Object.{Object, Integer, Symbol, Text, Pair}
 use Rattle.model_symbols.specs.Symbols.{QualifiedName}
 use Rattle.model_terms.specs.Cores.{Core, Cores, cores, count, Var, Const, If, Let, Mv, MvLet, StobjLet, WithLocal, MustBeEqual, Call, none, more}
 use Rattle.model_terms.specs.Worlds.{MacroFormals, Definition, Macro, Constant, definition}
-use Rattle.model_eval.specs.Outcomes.{Steps, Ended, Gives, Stops, Unknown}
+use Rattle.model_eval.specs.Outcomes.{Steps, Outcome, Gives, Stops, Unknown}
 use Rattle.model_expansion.specs.Forms.{elements, is_self_evaluating}
 use Rattle.model_expansion.specs.Faults.{ExpandFault, Arity, MacroStopped}
 use Rattle.model_expansion.specs.TypeTerms.{depth_of, most_depth}
@@ -69,7 +69,7 @@ abbrev IsLowPlace : Expanded Found → Type 0
 IsLowPlace (Makes f p) = IsLow f
 IsLowPlace (Fails fault p) = Unit {0}
 
-low_again : (p : Progress) (r : Ended ℕ) → IsLowOutcome (again p r)
+low_again : (p : Progress) (r : Outcome ℕ) → IsLowOutcome (again p r)
 low_again p (Gives values state) = tt
 low_again p (Stops stop inside state) = tt
 low_again p Unknown = tt

@@ -18,7 +18,7 @@ use Rattle.model_prims.specs.declared.prim.Listing.TheVariants as listing
 use Rattle.model_lists.specs.Types.{ValueType, Anything, Nothing, Integers, Recognized, OneOf, Either, Both, Other, meets, not_word, is_least, is_greatest}
 use Rattle.model_terms.specs.Cores.{Core, Const, If}
 use Rattle.model_terms.specs.Worlds.{World}
-use Rattle.model_eval.specs.Outcomes.{Shown, Plain, State, Ended, Gives, Stops, Unknown, Steps, one_more_call, then_with, counting}
+use Rattle.model_eval.specs.Outcomes.{Shown, Plain, State, Outcome, Gives, Stops, Unknown, Steps, one_more_call, then_with, counting, stops_here}
 use Rattle.model_eval.specs.Scopes.{Variables, single}
 use Rattle.model_eval.specs.Evaluated.{leaf, is_false, evaluated, called, in_order}
 use Rattle.model_eval.specs.Checked.{checked_rules, checked_primitive}
@@ -56,10 +56,10 @@ found_member x (Pair a d) = go (same_object by_number x a) (found_member x d)
     go true rest = refl
     go false rest = rest
 
-says_counting : (b : Bool) (limit : ℕ) (state : State ℕ) (go : State ℕ → Ended ℕ) → ((after : State ℕ) → Says b (go after)) → Says b (counting limit state go)
+says_counting : (b : Bool) (limit : ℕ) (state : State ℕ) (go : State ℕ → Outcome ℕ) → ((after : State ℕ) → Says b (go after)) → Says b (counting limit state go)
 says_counting b limit state go h = by_test (nat_lt state.calls limit)
   where
-    by_test : (c : Bool) → Says b (if c then go (one_more_call state) else Stops Steps None state)
+    by_test : (c : Bool) → Says b (if c then go (one_more_call state) else stops_here Steps state)
     by_test true = h (one_more_call state)
     by_test false = tt
 
@@ -104,7 +104,7 @@ module _ (packages : List Package) where
 -- ---- forms
 
 module _ (w : World) (packages : List Package) (limit : ℕ) (variables : Variables ℕ) where
-  abbrev run : ℕ → Core → State ℕ → Ended ℕ
+  abbrev run : ℕ → Core → State ℕ → Outcome ℕ
   run d f state = evaluated (checked_rules w packages limit) d f variables state
 
   -- a form says b at every depth and in every state
@@ -146,7 +146,7 @@ module _ (w : World) (packages : List Package) (limit : ℕ) (variables : Variab
   not_says b a s h zero state = tt
   not_says b a s h (suc d) state = after_test (run d a state) (h d state)
     where
-      after_test : (e : Ended ℕ) → Says b e
+      after_test : (e : Outcome ℕ) → Says b e
           → Says (not b) (then_with e (λ values after. called (checked_rules w packages limit) (evaluated (checked_rules w packages limit) d) not_word ([] ++ single by_number values ∷ []) after))
       after_test (Gives values after) q = rw q.1 (primitive_called d not_word (Recognizer recognizer.Not) (not b) (Plain q.0 ∷ []) after s (λ last. negation_says packages not_word b q.0 last q.2))
       after_test (Stops stop inside after) q = q
@@ -161,7 +161,7 @@ module _ (w : World) (packages : List Package) (limit : ℕ) (variables : Variab
       branch true first second after = first tt d after
       branch false first second after = second tt d after
 
-      after_test : (e : Ended ℕ) → Says b e → Says c (then_with e (λ values after. run d (if is_false (checked_rules w packages limit) values then h else g) after))
+      after_test : (e : Outcome ℕ) → Says b e → Says c (then_with e (λ values after. run d (if is_false (checked_rules w packages limit) values then h else g) after))
       after_test (Gives values after) q = rw (q.1, q.2) (branch b hg hh after)
       after_test (Stops stop inside after) q = q
       after_test Unknown q = absurd q

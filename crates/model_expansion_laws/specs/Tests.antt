@@ -14,7 +14,7 @@ use Rattle.model_prims.specs.declared.prim.Listing.TheVariants as listing
 use Rattle.model_lists.specs.Types.{ValueType, Anything, Nothing, Integers, Recognized, OneOf, Either, Both, Other, meets, type_of, not_word, atom_word, null_word}
 use Rattle.model_terms.specs.Cores.{Core}
 use Rattle.model_terms.specs.Worlds.{World, Primitive, definition}
-use Rattle.model_eval.specs.Outcomes.{Plain, Stop, Guard, Steps, Depth, Range, Large, Symbols, State, Ended, Gives, Stops, Unknown}
+use Rattle.model_eval.specs.Outcomes.{Plain, Stop, Guard, Steps, Depth, Range, Large, Symbols, State, Outcome, Gives, Stops, Unknown}
 use Rattle.model_eval.specs.Scopes.{Variables}
 use Rattle.model_eval.specs.Evaluated.{leaf}
 use Rattle.model_eval.specs.Checked.{checked, checked_rules}
@@ -70,7 +70,7 @@ IsLimit (Large f) = ⊥
 IsLimit (Symbols f) = ⊥
 
 -- one ordinary value, other than `NIL` exactly where b; or a stop at a limit
-abbrev pub Says : Bool → Ended ℕ → Type 0
+abbrev pub Says : Bool → Outcome ℕ → Type 0
 Says b (Gives values state) = (v : Object ℕ) × (values ≡ Plain v ∷ []) × (is_nil by_number v ≡ not b)
 Says b (Stops stop inside state) = IsLimit stop
 Says b Unknown = ⊥

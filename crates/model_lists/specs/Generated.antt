@@ -6,7 +6,7 @@ use Rattle.model_objects.specs.Object.{Object, Integer, Symbol, Text, Pair}
 use Rattle.model_prims.specs.Kinds.{SymbolKind, nil_of, truth_of, is_integer, is_symbol}
 use Rattle.model_prims.specs.Numbers.{natural_of}
 use Rattle.model_prims.specs.Applied.{argument}
-use Rattle.model_lists.specs.Lists.{ObjectList, Value, Pairs, size, item, with_item, resized, pairs_of, value_at, has_key, without_key, key_count, as_object}
+use Rattle.model_lists.specs.Lists.{StobjList, Value, Pairs, size, item, with_item, resized, pairs_of, value_at, has_key, without_key, key_count, scalar_of}
 use Rattle.model_lists.specs.Types.{meets}
 use Rattle.model_lists.specs.Layouts.{Layout, Scalar, Array, Hash, Children, NoField, Field}
 
@@ -14,7 +14,7 @@ use Rattle.model_lists.specs.Layouts.{Layout, Scalar, Array, Hash, Children, NoF
 pub data Effect (S : Type 0) : Type 0 where
   Refuses : Effect S
   Reads : List (Object S) → Effect S
-  Writes : ObjectList S → Effect S
+  Writes : StobjList S → Effect S
 
 -- the most elements that an array may be resized to
 abbrev pub most_elements : ℕ
@@ -55,16 +55,16 @@ module _ {S : Type 0} (k : SymbolKind S) where
   -- ---- fields by their numbers; arguments in the order of the call, without the object
 
   -- a scalar field, or the element of an array
-  unfoldable pub accessed : Layout S → ℕ → List (Object S) → ObjectList S → Effect S
-  accessed (Scalar t o) f args l = reads (as_object k (item f l))
+  unfoldable pub accessed : Layout S → ℕ → List (Object S) → StobjList S → Effect S
+  accessed (Scalar t o) f args l = reads (scalar_of k (item f l))
   accessed (Array t o n resizable) f args l =
-      let i = argument k args 0 in when (is_index i (size (item f l))) (reads (as_object k (item (natural_of i) (item f l))))
+      let i = argument k args 0 in when (is_index i (size (item f l))) (reads (scalar_of k (item (natural_of i) (item f l))))
   accessed (Hash test) f args l = Refuses
   accessed (Children n child) f args l = Refuses
   accessed NoField f args l = Refuses
   accessed (Field first others) f args l = Refuses
 
-  unfoldable pub changed : Layout S → ℕ → List (Object S) → ObjectList S → Effect S
+  unfoldable pub changed : Layout S → ℕ → List (Object S) → StobjList S → Effect S
   changed (Scalar t o) f args l = let new = argument k args 0 in when (meets k t new) (Writes (with_item f (Value new) l))
   changed (Array t o n resizable) f args l =
       let i = argument k args 0 in
@@ -76,11 +76,11 @@ module _ {S : Type 0} (k : SymbolKind S) where
   changed (Field first others) f args l = Refuses
 
   -- the length of an array, of children too
-  abbrev pub measured : ℕ → ObjectList S → Effect S
+  abbrev pub measured : ℕ → StobjList S → Effect S
   measured f l = reads_number (size (item f l))
 
   -- an array cut to a length, or lengthened with its initial value
-  unfoldable pub lengthened : Layout S → ℕ → List (Object S) → ObjectList S → Effect S
+  unfoldable pub lengthened : Layout S → ℕ → List (Object S) → StobjList S → Effect S
   lengthened (Array t o n resizable) f args l =
       let new = argument k args 0 in
       when (resizable && is_up_to most_elements new) (Writes (with_item f (resized (natural_of new) (Value o) (item f l)) l))
@@ -100,33 +100,33 @@ module _ {S : Type 0} (k : SymbolKind S) where
   with_key (Field first others) key e = Refuses
 
   -- the value of a key, `NIL` where it is not bound
-  abbrev pub value_or_nil : Object S → ObjectList S → Object S
+  abbrev pub value_or_nil : Object S → StobjList S → Object S
   value_or_nil key field = unwrap_or (value_at k key (pairs_of field)) (nil_of k)
 
-  abbrev pub is_bound : Object S → ObjectList S → Object S
+  abbrev pub is_bound : Object S → StobjList S → Object S
   is_bound key field = truth_of k (has_key k key (pairs_of field))
 
-  unfoldable pub hash_read : Layout S → ℕ → List (Object S) → ObjectList S → Effect S
+  unfoldable pub hash_read : Layout S → ℕ → List (Object S) → StobjList S → Effect S
   hash_read layout f args l = let key = argument k args 0 in with_key layout key (reads (value_or_nil key (item f l)))
 
-  unfoldable pub hash_bound : Layout S → ℕ → List (Object S) → ObjectList S → Effect S
+  unfoldable pub hash_bound : Layout S → ℕ → List (Object S) → StobjList S → Effect S
   hash_bound layout f args l = let key = argument k args 0 in with_key layout key (reads (is_bound key (item f l)))
 
   -- the value, and whether the key is bound
-  unfoldable pub hash_looked_up : Layout S → ℕ → List (Object S) → ObjectList S → Effect S
+  unfoldable pub hash_looked_up : Layout S → ℕ → List (Object S) → StobjList S → Effect S
   hash_looked_up layout f args l =
       let key = argument k args 0 in with_key layout key (Reads (value_or_nil key (item f l) ∷ is_bound key (item f l) ∷ []))
 
-  unfoldable pub hash_put : Layout S → ℕ → List (Object S) → ObjectList S → Effect S
+  unfoldable pub hash_put : Layout S → ℕ → List (Object S) → StobjList S → Effect S
   hash_put layout f args l =
       let key = argument k args 0 in with_key layout key (Writes (with_item f (Pairs ((key, argument k args 1) ∷ pairs_of (item f l))) l))
 
-  unfoldable pub hash_removed : Layout S → ℕ → List (Object S) → ObjectList S → Effect S
+  unfoldable pub hash_removed : Layout S → ℕ → List (Object S) → StobjList S → Effect S
   hash_removed layout f args l =
       let key = argument k args 0 in with_key layout key (Writes (with_item f (Pairs (without_key k key (pairs_of (item f l)))) l))
 
-  abbrev pub hash_counted : ℕ → ObjectList S → Effect S
+  abbrev pub hash_counted : ℕ → StobjList S → Effect S
   hash_counted f l = reads_number (key_count k (pairs_of (item f l)))
 
-  abbrev pub hash_cleared : ℕ → ObjectList S → Effect S
+  abbrev pub hash_cleared : ℕ → StobjList S → Effect S
   hash_cleared f l = Writes (with_item f (Pairs []) l)

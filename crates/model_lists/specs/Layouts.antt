@@ -4,7 +4,7 @@ use Rattle.acl_base.specs.declared.layout.Test.{Test}
 use Rattle.model_objects.specs.Object.{Object, Integer, Symbol, Text, Pair}
 use Rattle.model_prims.specs.Kinds.{SymbolKind, is_nil, is_pair}
 use Rattle.model_prims.specs.Lists.{len, car, cdr}
-use Rattle.model_lists.specs.Lists.{ObjectList, Value, Pairs, End, Item}
+use Rattle.model_lists.specs.Lists.{StobjList, Value, Pairs, End, Item}
 use Rattle.model_lists.specs.Types.{ValueType, meets}
 
 -- a field, or an object, which is fields before an end
@@ -16,12 +16,12 @@ pub data Layout (S : Type 0) : Type 0 where
   NoField : Layout S
   Field : Layout S → Layout S → Layout S
 
-abbrev pub repeated : {S : Type 0} → ℕ → ObjectList S → ObjectList S
+abbrev pub repeated : {S : Type 0} → ℕ → StobjList S → StobjList S
 repeated zero x = End
 repeated (suc n) x = Item x (repeated n x)
 
 -- the list of a new object
-abbrev pub initial : {S : Type 0} → Layout S → ObjectList S
+abbrev pub initial : {S : Type 0} → Layout S → StobjList S
 initial (Scalar t o) = Value o
 initial (Array t o n resizable) = repeated n (Value o)
 initial (Hash test) = Pairs []

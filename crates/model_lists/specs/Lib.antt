@@ -1,7 +1,9 @@
 pub mod Lists
 pub mod Types
 pub mod Layouts
+pub mod Kinds
 pub mod Normal
 pub mod Logical
 pub mod Generated
 pub mod Standing
+pub mod Listed

@@ -1,30 +1,35 @@
 -- What the functions of an object do to lists that stand for one object.
-use Rattle.std.proofs.Common.{◌≡◌, ℕ, List, [], ◌∷◌, length, Bool, true, false, Option, refl, sym, ap, ◌∙◌, subst}
-use Rattle.std.specs.Prelude.{◌&&◌, pos, unwrap_or}
+use Rattle.std.proofs.Common.{◌≡◌, ℕ, List, [], ◌∷◌, length, Bool, true, false, Option, refl, sym, ap, ◌∙◌, subst, arith}
+use Rattle.std.specs.Prelude.{◌&&◌, nat_eq, pos, unwrap_or}
 use Rattle.std.specs.Option.{is_some}
 use Rattle.std.specs.Cmp.{IsTotalOrder}
+use Rattle.std.specs.Ordering.{nat_cmp, ordering_reverse}
 use Rattle.std.specs.declared.cmp.Ordering.{Ordering}
-use Rattle.std.proofs.lemmas.Map.Lookups.{CmpEqualImpliesEq}
+use Rattle.std.specs.declared.cmp.Ordering.TheVariants.{Less, Equal, Greater}
+use Rattle.std.proofs.lemmas.Map.Lookups.{CmpEqualImpliesEq, exact_unsigned}
+use Rattle.std.proofs.lemmas.Cmp.{nat_cmp_total}
+use Rattle.std.proofs.lemmas.Bool.Decides.{nat_tests}
 use Rattle.std.specs.Bool.{Decides}
-use Rattle.model_objects.specs.Object.{Object, Integer}
+use Rattle.model_objects.specs.Object.{Object, Integer, Symbol, object_cmp}
+use Rattle.model_objects.proofs.Ordered.{object_total, object_exact}
 use Rattle.model_symbols.proofs.NameLemmas.{same_name-Decides}
-use Rattle.model_prims.specs.Kinds.{SymbolKind, by_name, nil_of, truth_of}
+use Rattle.model_prims.specs.Kinds.{SymbolKind, by_name, by_number, nil_of, truth_of, same_object}
 use Rattle.model_prims.specs.Numbers.{natural_of}
 use Rattle.model_prims.specs.Applied.{argument}
-use Rattle.model_lists.specs.Lists.{ObjectList, Value, Pairs, size, item, with_item, resized, pairs_of, value_at, without_key, key_count, as_object}
-use Rattle.model_lists.specs.Types.{ValueType, meets}
-use Rattle.model_lists.specs.Layouts.{Layout, Scalar, Array, Hash, Children, NoField, Field, field_layout}
-use Rattle.model_lists.specs.Normal.{name_cmp, normal, normal_pairs, put_in_order}
-use Rattle.model_lists.specs.Standing.{HasFields, AreAlike}
-use Rattle.model_lists.specs.Generated.{Effect, Refuses, Reads, Writes, is_index, is_up_to, most_elements, reads, when, with_key, accessed, changed, measured, lengthened, hash_read, hash_bound, hash_looked_up, hash_put, hash_removed, hash_counted, hash_cleared}
-use Rattle.model_lists_laws.specs.Standing.{AlikeEffects, ListsAreReadAlike}
-use Rattle.model_lists_laws.proofs.NormalLemmas.{value_normal, names_total, names_exact}
+use Rattle.model_lists.specs.Lists.{StobjList, Value, Pairs, size, item, with_item, resized, pairs_of, value_at, without_key, key_count}
+use Rattle.model_lists.specs.Types.{meets}
+use Rattle.model_lists.specs.Layouts.{Layout, Scalar, Array, Hash, Children, NoField, Field}
+use Rattle.model_lists.specs.Normal.{name_cmp, normal_pairs, put_in_order}
+use Rattle.model_lists.specs.Standing.{AreAlike}
+use Rattle.model_lists.specs.Generated.{Effect, Refuses, Reads, Writes, is_index, is_up_to, most_elements, when, with_key, accessed, changed, measured, lengthened, hash_read, hash_bound, hash_looked_up, hash_put, hash_removed, hash_counted, hash_cleared}
+use Rattle.model_lists_laws.specs.Standing.{AlikeEffects, Orders, ListsAreReadAlike}
+use Rattle.model_lists_laws.proofs.NormalLemmas.{value_normal, same_itself, same_tells, names_total, names_exact}
 use Rattle.model_lists_laws.proofs.PairLemmas.{without_normal, count_normal}
-use Rattle.model_lists_laws.proofs.StandingLemmas.{item_alike, with_alike, size_alike, pairs_alike, value_alike, values_alike, field_of_layout}
+use Rattle.model_lists_laws.proofs.StandingLemmas.{item_alike, with_alike, size_alike, pairs_alike, scalar_alike, resized_alike}
 
 module _ {S : Type 0} (k : SymbolKind S) (decides : (a b : S) → Decides (k.same a b) (a ≡ b)) (names : S → S → Ordering) (total : IsTotalOrder names) (exact : CmpEqualImpliesEq names) where
   abbrev Lists : Type 0
-  Lists = ObjectList S
+  Lists = StobjList S
 
   abbrev Same : Effect S → Effect S → Type 0
   Same = AlikeEffects names
@@ -40,6 +45,13 @@ module _ {S : Type 0} (k : SymbolKind S) (decides : (a b : S) → Decides (k.sam
   when_alike true d e h = h
   when_alike false d e h = tt
 
+  -- the same where the index is one of arrays of one length
+  sized_alike : (i : Object S) (n p : ℕ) (d e : Effect S) → n ≡ p → Same d e → Same (when k (is_index i n) d) (when k (is_index i p) e)
+  sized_alike i n p d e z h = subst (λ (q : ℕ). Same (when k (is_index i n) d) (when k (is_index i q) e)) z (when_alike (is_index i n) d e h)
+
+  element_alike : (i : Object S) (b : Bool) (n p : ℕ) (d e : Effect S) → n ≡ p → Same d e → Same (when k (is_index i n && b) d) (when k (is_index i p && b) e)
+  element_alike i b n p d e z h = subst (λ (q : ℕ). Same (when k (is_index i n && b) d) (when k (is_index i q && b) e)) z (when_alike (is_index i n && b) d e h)
+
   with_key_alike : (layout : Layout S) (key : Object S) (d e : Effect S) → Same d e → Same (with_key k layout key d) (with_key k layout key e)
   with_key_alike (Hash test) key d e h = when_alike _ d e h
   with_key_alike (Scalar t o) key d e h = tt
@@ -50,67 +62,48 @@ module _ {S : Type 0} (k : SymbolKind S) (decides : (a b : S) → Decides (k.sam
 
   -- ---- scalars and arrays
 
-  scalar_alike : (t : ValueType S) (o : Object S) (f : ℕ) (whole : Layout S) (l m : Lists) → field_layout f whole ≡ Scalar t o → HasFields whole l → HasFields whole m → AreAlike names l m → item f l ≡ item f m
-  scalar_alike t o f whole l m e g i h =
-      value_alike names (item f l) (item f m) (field_of_layout (Scalar t o) f whole l e tt g) (field_of_layout (Scalar t o) f whole m e tt i) (item_alike names f l m h)
-
-  array_alike : (t : ValueType S) (o : Object S) (n : ℕ) (resizable : Bool) (f : ℕ) (whole : Layout S) (l m : Lists) → field_layout f whole ≡ Array t o n resizable → HasFields whole l → HasFields whole m → AreAlike names l m → item f l ≡ item f m
-  array_alike t o n resizable f whole l m e g i h =
-      values_alike names (item f l) (item f m) (field_of_layout (Array t o n resizable) f whole l e tt g) (field_of_layout (Array t o n resizable) f whole m e tt i) (item_alike names f l m h)
-
-  accessed_alike : (layout : Layout S) (f : ℕ) (args : List (Object S)) (whole : Layout S) (l m : Lists) → field_layout f whole ≡ layout → HasFields whole l → HasFields whole m → AreAlike names l m
-      → Same (accessed k layout f args l) (accessed k layout f args m)
+  accessed_alike : (layout : Layout S) (f : ℕ) (args : List (Object S)) (l m : Lists) → AreAlike names l m → Same (accessed k layout f args l) (accessed k layout f args m)
   unfolding accessed
-  accessed_alike (Scalar t o) f args whole l m e g i h = ap (λ (x : Lists). as_object k x ∷ []) (scalar_alike t o f whole l m e g i h)
-  accessed_alike (Array t o n resizable) f args whole l m e g i h =
-      subst (λ (x : Lists). Same (element (item f l)) (element x)) (array_alike t o n resizable f whole l m e g i h) (alike_itself (element (item f l)))
-    where
-      element : Lists → Effect S
-      element x = when k (is_index (argument k args 0) (size x)) (reads k (as_object k (item (natural_of (argument k args 0)) x)))
-  accessed_alike (Hash test) f args whole l m e g i h = tt
-  accessed_alike (Children n child) f args whole l m e g i h = tt
-  accessed_alike NoField f args whole l m e g i h = tt
-  accessed_alike (Field first others) f args whole l m e g i h = tt
+  accessed_alike (Scalar t o) f args l m h = ap (λ (v : Object S). v ∷ []) (scalar_alike names k (item f l) (item f m) (item_alike names f l m h))
+  accessed_alike (Array t o n resizable) f args l m h =
+      sized_alike (argument k args 0) (size (item f l)) (size (item f m)) _ _ (size_alike names (item f l) (item f m) (item_alike names f l m h))
+      (ap (λ (v : Object S). v ∷ [])
+      (scalar_alike names k (item (natural_of (argument k args 0)) (item f l)) (item (natural_of (argument k args 0)) (item f m))
+      (item_alike names (natural_of (argument k args 0)) (item f l) (item f m) (item_alike names f l m h))))
+  accessed_alike (Hash test) f args l m h = tt
+  accessed_alike (Children n child) f args l m h = tt
+  accessed_alike NoField f args l m h = tt
+  accessed_alike (Field first others) f args l m h = tt
 
-  changed_alike : (layout : Layout S) (f : ℕ) (args : List (Object S)) (whole : Layout S) (l m : Lists) → field_layout f whole ≡ layout → HasFields whole l → HasFields whole m → AreAlike names l m
-      → Same (changed k layout f args l) (changed k layout f args m)
+  changed_alike : (layout : Layout S) (f : ℕ) (args : List (Object S)) (l m : Lists) → AreAlike names l m → Same (changed k layout f args l) (changed k layout f args m)
   unfolding changed
-  changed_alike (Scalar t o) f args whole l m e g i h =
+  changed_alike (Scalar t o) f args l m h =
       when_alike (meets k t (argument k args 0)) _ _ (with_alike names f (Value (argument k args 0)) (Value (argument k args 0)) l m refl h)
-  changed_alike (Array t o n resizable) f args whole l m e g i h =
-      subst (λ (x : Lists). Same (element (item f l) l) (element x m)) (array_alike t o n resizable f whole l m e g i h)
-      (when_alike (passes (item f l)) (Writes (with_item f (put (item f l)) l)) (Writes (with_item f (put (item f l)) m)) (with_alike names f (put (item f l)) (put (item f l)) l m refl h))
+  changed_alike (Array t o n resizable) f args l m h =
+      element_alike (argument k args 0) (meets k t (argument k args 1)) (size (item f l)) (size (item f m)) _ _ (size_alike names (item f l) (item f m) (item_alike names f l m h))
+      (with_alike names f (put (item f l)) (put (item f m)) l m
+      (with_alike names (natural_of (argument k args 0)) (Value (argument k args 1)) (Value (argument k args 1)) (item f l) (item f m) refl (item_alike names f l m h)) h)
     where
       put : Lists → Lists
       put x = with_item (natural_of (argument k args 0)) (Value (argument k args 1)) x
+  changed_alike (Hash test) f args l m h = tt
+  changed_alike (Children n child) f args l m h = tt
+  changed_alike NoField f args l m h = tt
+  changed_alike (Field first others) f args l m h = tt
 
-      passes : Lists → Bool
-      passes x = is_index (argument k args 0) (size x) && meets k t (argument k args 1)
-
-      element : Lists → Lists → Effect S
-      element x y = when k (passes x) (Writes (with_item f (put x) y))
-  changed_alike (Hash test) f args whole l m e g i h = tt
-  changed_alike (Children n child) f args whole l m e g i h = tt
-  changed_alike NoField f args whole l m e g i h = tt
-  changed_alike (Field first others) f args whole l m e g i h = tt
-
-  lengthened_alike : (layout : Layout S) (f : ℕ) (args : List (Object S)) (whole : Layout S) (l m : Lists) → field_layout f whole ≡ layout → HasFields whole l → HasFields whole m → AreAlike names l m
-      → Same (lengthened k layout f args l) (lengthened k layout f args m)
+  lengthened_alike : (layout : Layout S) (f : ℕ) (args : List (Object S)) (l m : Lists) → AreAlike names l m → Same (lengthened k layout f args l) (lengthened k layout f args m)
   unfolding lengthened
-  lengthened_alike (Scalar t o) f args whole l m e g i h = tt
-  lengthened_alike (Array t o n resizable) f args whole l m e g i h =
+  lengthened_alike (Scalar t o) f args l m h = tt
+  lengthened_alike (Array t o n resizable) f args l m h =
       when_alike (resizable && is_up_to most_elements (argument k args 0)) _ _
-      (with_alike names f (cut (item f l)) (cut (item f m)) l m (ap (λ (x : Lists). normal_cut x) (array_alike t o n resizable f whole l m e g i h)) h)
+      (with_alike names f (cut (item f l)) (cut (item f m)) l m (resized_alike names (natural_of (argument k args 0)) (Value o) (item f l) (item f m) (item_alike names f l m h)) h)
     where
       cut : Lists → Lists
       cut x = resized (natural_of (argument k args 0)) (Value o) x
-
-      normal_cut : Lists → Lists
-      normal_cut x = normal names (cut x)
-  lengthened_alike (Hash test) f args whole l m e g i h = tt
-  lengthened_alike (Children n child) f args whole l m e g i h = tt
-  lengthened_alike NoField f args whole l m e g i h = tt
-  lengthened_alike (Field first others) f args whole l m e g i h = tt
+  lengthened_alike (Hash test) f args l m h = tt
+  lengthened_alike (Children n child) f args l m h = tt
+  lengthened_alike NoField f args l m h = tt
+  lengthened_alike (Field first others) f args l m h = tt
 
   measured_alike : (f : ℕ) (l m : Lists) → AreAlike names l m → Same (measured k f l) (measured k f m)
   measured_alike f l m h = ap number (size_alike names (item f l) (item f m) (item_alike names f l m h))
@@ -173,17 +166,66 @@ module _ {S : Type 0} (k : SymbolKind S) (decides : (a b : S) → Decides (k.sam
   hash_cleared_alike : (f : ℕ) (l m : Lists) → AreAlike names l m → Same (hash_cleared k f l) (hash_cleared k f m)
   hash_cleared_alike f l m h = with_alike names f (Pairs []) (Pairs []) l m refl h
 
-pub lists_are_read_alike : ListsAreReadAlike
-lists_are_read_alike = record {
-  accessed = accessed_alike by_name same_name-Decides name_cmp names_total names_exact;
-  changed = changed_alike by_name same_name-Decides name_cmp names_total names_exact;
-  measured = measured_alike by_name same_name-Decides name_cmp names_total names_exact;
-  lengthened = lengthened_alike by_name same_name-Decides name_cmp names_total names_exact;
-  hash_read = hash_read_alike by_name same_name-Decides name_cmp names_total names_exact;
-  hash_bound = hash_bound_alike by_name same_name-Decides name_cmp names_total names_exact;
-  hash_looked_up = hash_looked_up_alike by_name same_name-Decides name_cmp names_total names_exact;
-  hash_put = hash_put_alike by_name same_name-Decides name_cmp names_total names_exact;
-  hash_removed = hash_removed_alike by_name same_name-Decides name_cmp names_total names_exact;
-  hash_counted = hash_counted_alike by_name same_name-Decides name_cmp names_total names_exact;
-  hash_cleared = hash_cleared_alike by_name same_name-Decides name_cmp names_total names_exact;
-}
+-- ---- orders
+
+module _ {S : Type 0} (k : SymbolKind S) (names : S → S → Ordering) where
+  compares_itself : {T : Type 0} (cmp : T → T → Ordering) → IsTotalOrder cmp → (x : T) → cmp x x ≡ Equal
+  compares_itself cmp total x = go (cmp x x) (total.antisymm x x)
+    where
+      go : (o : Ordering) → o ≡ ordering_reverse o → o ≡ Equal
+      go Less e = cc
+      go Equal e = refl
+      go Greater e = cc
+
+  -- where symbols are told apart both ways
+  pub orders : ((a b : S) → Decides (k.same a b) (a ≡ b)) → IsTotalOrder names → CmpEqualImpliesEq names → Orders k names
+  orders decides total exact = record {
+    total = total;
+    exact = exact;
+    same = λ a b. (
+      λ e. subst (λ c. object_cmp names a c ≡ Equal) (same_tells k decides a b e) (compares_itself (object_cmp names) (object_total names total) a),
+      λ e. subst (λ c. same_object k a c ≡ true) (object_exact names exact a b e) (same_itself k decides a),
+    );
+  }
+
+  pub decides_symbols : Orders k names → (a b : S) → Decides (k.same a b) (a ≡ b)
+  decides_symbols o a b = (
+    λ e. o.exact a b ((o.same (Symbol a) (Symbol b)).0 e),
+    λ e. (o.same (Symbol a) (Symbol b)).1 (subst (λ c. names a c ≡ Equal) e (compares_itself names o.total a)),
+  )
+
+  pub lists_are_read_alike : Orders k names → ListsAreReadAlike k names
+  lists_are_read_alike o = record {
+    accessed = accessed_alike k (decides_symbols o) names o.total o.exact;
+    changed = changed_alike k (decides_symbols o) names o.total o.exact;
+    measured = measured_alike k (decides_symbols o) names o.total o.exact;
+    lengthened = lengthened_alike k (decides_symbols o) names o.total o.exact;
+    hash_read = hash_read_alike k (decides_symbols o) names o.total o.exact;
+    hash_bound = hash_bound_alike k (decides_symbols o) names o.total o.exact;
+    hash_looked_up = hash_looked_up_alike k (decides_symbols o) names o.total o.exact;
+    hash_put = hash_put_alike k (decides_symbols o) names o.total o.exact;
+    hash_removed = hash_removed_alike k (decides_symbols o) names o.total o.exact;
+    hash_counted = hash_counted_alike k (decides_symbols o) names o.total o.exact;
+    hash_cleared = hash_cleared_alike k (decides_symbols o) names o.total o.exact;
+  }
+
+number_is : (a b : ℕ) → nat_eq a b ≡ true → a ≡ b
+number_is a b h = grind (arith, nat_tests)
+
+is_number : (a b : ℕ) → a ≡ b → nat_eq a b ≡ true
+is_number a b h = grind (arith, nat_tests)
+
+pub same_number-Decides : (a b : ℕ) → Decides (nat_eq a b) (a ≡ b)
+same_number-Decides a b = (number_is a b, is_number a b)
+
+pub names_ordered : Orders by_name name_cmp
+names_ordered = orders by_name name_cmp same_name-Decides names_total names_exact
+
+pub numbers_ordered : Orders by_number nat_cmp
+numbers_ordered = orders by_number nat_cmp same_number-Decides nat_cmp_total exact_unsigned
+
+pub named_alike : ListsAreReadAlike by_name name_cmp
+named_alike = lists_are_read_alike by_name name_cmp names_ordered
+
+pub numbered_alike : ListsAreReadAlike by_number nat_cmp
+numbered_alike = lists_are_read_alike by_number nat_cmp numbers_ordered

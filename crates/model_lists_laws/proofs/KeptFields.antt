@@ -2,10 +2,10 @@
 use Rattle.std.proofs.Common.{◌≡◌, ℕ, List, [], ◌∷◌, Bool, true, false}
 use Rattle.std.specs.Prelude.{◌&&◌}
 use Rattle.model_objects.specs.Object.{Object}
-use Rattle.model_prims.specs.Kinds.{SymbolKind, by_name}
+use Rattle.model_prims.specs.Kinds.{SymbolKind}
 use Rattle.model_prims.specs.Numbers.{natural_of}
 use Rattle.model_prims.specs.Applied.{argument}
-use Rattle.model_lists.specs.Lists.{ObjectList, Value, Pairs, size, item, with_item, resized, pairs_of, without_key, as_object}
+use Rattle.model_lists.specs.Lists.{StobjList, Value, Pairs, size, item, with_item, resized, pairs_of, without_key, scalar_of}
 use Rattle.model_lists.specs.Types.{meets}
 use Rattle.model_lists.specs.Layouts.{Layout, Scalar, Array, Hash, Children, NoField, Field, field_layout}
 use Rattle.model_lists.specs.Standing.{HasFields}
@@ -29,17 +29,17 @@ module _ {S : Type 0} (k : SymbolKind S) where
 
   -- ---- scalars and arrays
 
-  accessed_keeps : (layout : Layout S) (f : ℕ) (args : List (Object S)) (whole : Layout S) (l : ObjectList S) → KeepsFields whole (accessed k layout f args l)
+  pub accessed_keeps : (layout : Layout S) (f : ℕ) (args : List (Object S)) (whole : Layout S) (l : StobjList S) → KeepsFields whole (accessed k layout f args l)
   unfolding accessed
   accessed_keeps (Scalar t o) f args whole l = tt
   accessed_keeps (Array t o n resizable) f args whole l =
-      when_keeps whole (is_index (argument k args 0) (size (item f l))) (reads k (as_object k (item (natural_of (argument k args 0)) (item f l)))) tt
+      when_keeps whole (is_index (argument k args 0) (size (item f l))) (reads k (scalar_of k (item (natural_of (argument k args 0)) (item f l)))) tt
   accessed_keeps (Hash test) f args whole l = tt
   accessed_keeps (Children n child) f args whole l = tt
   accessed_keeps NoField f args whole l = tt
   accessed_keeps (Field first others) f args whole l = tt
 
-  changed_keeps : (layout : Layout S) (f : ℕ) (args : List (Object S)) (whole : Layout S) (l : ObjectList S) → field_layout f whole ≡ layout → HasFields whole l → KeepsFields whole (changed k layout f args l)
+  pub changed_keeps : (layout : Layout S) (f : ℕ) (args : List (Object S)) (whole : Layout S) (l : StobjList S) → field_layout f whole ≡ layout → HasFields whole l → KeepsFields whole (changed k layout f args l)
   unfolding changed
   changed_keeps (Scalar t o) f args whole l e h = when_keeps whole (meets k t (argument k args 0)) _ (with_field_of_layout (Scalar t o) f whole (Value (argument k args 0)) l e tt h tt)
   changed_keeps (Array t o n resizable) f args whole l e h =
@@ -51,7 +51,7 @@ module _ {S : Type 0} (k : SymbolKind S) where
   changed_keeps NoField f args whole l e h = tt
   changed_keeps (Field first others) f args whole l e h = tt
 
-  lengthened_keeps : (layout : Layout S) (f : ℕ) (args : List (Object S)) (whole : Layout S) (l : ObjectList S) → field_layout f whole ≡ layout → HasFields whole l → KeepsFields whole (lengthened k layout f args l)
+  pub lengthened_keeps : (layout : Layout S) (f : ℕ) (args : List (Object S)) (whole : Layout S) (l : StobjList S) → field_layout f whole ≡ layout → HasFields whole l → KeepsFields whole (lengthened k layout f args l)
   unfolding lengthened
   lengthened_keeps (Scalar t o) f args whole l e h = tt
   lengthened_keeps (Array t o n resizable) f args whole l e h =
@@ -65,19 +65,19 @@ module _ {S : Type 0} (k : SymbolKind S) where
 
   -- ---- hash fields
 
-  hash_read_keeps : (layout : Layout S) (f : ℕ) (args : List (Object S)) (whole : Layout S) (l : ObjectList S) → KeepsFields whole (hash_read k layout f args l)
+  pub hash_read_keeps : (layout : Layout S) (f : ℕ) (args : List (Object S)) (whole : Layout S) (l : StobjList S) → KeepsFields whole (hash_read k layout f args l)
   unfolding hash_read
   hash_read_keeps layout f args whole l = read_keeps whole layout (argument k args 0) _
 
-  hash_bound_keeps : (layout : Layout S) (f : ℕ) (args : List (Object S)) (whole : Layout S) (l : ObjectList S) → KeepsFields whole (hash_bound k layout f args l)
+  pub hash_bound_keeps : (layout : Layout S) (f : ℕ) (args : List (Object S)) (whole : Layout S) (l : StobjList S) → KeepsFields whole (hash_bound k layout f args l)
   unfolding hash_bound
   hash_bound_keeps layout f args whole l = read_keeps whole layout (argument k args 0) _
 
-  hash_looked_up_keeps : (layout : Layout S) (f : ℕ) (args : List (Object S)) (whole : Layout S) (l : ObjectList S) → KeepsFields whole (hash_looked_up k layout f args l)
+  pub hash_looked_up_keeps : (layout : Layout S) (f : ℕ) (args : List (Object S)) (whole : Layout S) (l : StobjList S) → KeepsFields whole (hash_looked_up k layout f args l)
   unfolding hash_looked_up
   hash_looked_up_keeps layout f args whole l = read_keeps whole layout (argument k args 0) _
 
-  put_keeps : (layout : Layout S) (f : ℕ) (args : List (Object S)) (whole : Layout S) (l : ObjectList S) → field_layout f whole ≡ layout → HasFields whole l → KeepsFields whole (hash_put k layout f args l)
+  pub put_keeps : (layout : Layout S) (f : ℕ) (args : List (Object S)) (whole : Layout S) (l : StobjList S) → field_layout f whole ≡ layout → HasFields whole l → KeepsFields whole (hash_put k layout f args l)
   unfolding hash_put
   put_keeps (Scalar t o) f args whole l e h = tt
   put_keeps (Array t o n resizable) f args whole l e h = tt
@@ -88,7 +88,7 @@ module _ {S : Type 0} (k : SymbolKind S) where
   put_keeps NoField f args whole l e h = tt
   put_keeps (Field first others) f args whole l e h = tt
 
-  removed_keeps : (layout : Layout S) (f : ℕ) (args : List (Object S)) (whole : Layout S) (l : ObjectList S) → field_layout f whole ≡ layout → HasFields whole l → KeepsFields whole (hash_removed k layout f args l)
+  pub removed_keeps : (layout : Layout S) (f : ℕ) (args : List (Object S)) (whole : Layout S) (l : StobjList S) → field_layout f whole ≡ layout → HasFields whole l → KeepsFields whole (hash_removed k layout f args l)
   unfolding hash_removed
   removed_keeps (Scalar t o) f args whole l e h = tt
   removed_keeps (Array t o n resizable) f args whole l e h = tt
@@ -99,7 +99,7 @@ module _ {S : Type 0} (k : SymbolKind S) where
   removed_keeps NoField f args whole l e h = tt
   removed_keeps (Field first others) f args whole l e h = tt
 
-  cleared_keeps : (layout : Layout S) (f : ℕ) (whole : Layout S) (l : ObjectList S) → field_layout f whole ≡ layout → IsHashField layout → HasFields whole l → KeepsFields whole (hash_cleared k f l)
+  pub cleared_keeps : (layout : Layout S) (f : ℕ) (whole : Layout S) (l : StobjList S) → field_layout f whole ≡ layout → IsHashField layout → HasFields whole l → KeepsFields whole (hash_cleared k f l)
   cleared_keeps (Scalar t o) f whole l e i h = absurd i
   cleared_keeps (Array t o n resizable) f whole l e i h = absurd i
   cleared_keeps (Hash test) f whole l e i h = with_field_of_layout (Hash test) f whole (Pairs []) l e tt h tt
@@ -107,17 +107,17 @@ module _ {S : Type 0} (k : SymbolKind S) where
   cleared_keeps NoField f whole l e i h = absurd i
   cleared_keeps (Field first others) f whole l e i h = absurd i
 
-pub writes_keep_fields : WritesKeepFields
-writes_keep_fields = record {
-  accessed = accessed_keeps by_name;
-  changed = changed_keeps by_name;
+pub writes_keep_fields : {S : Type 0} (k : SymbolKind S) → WritesKeepFields k
+writes_keep_fields k = record {
+  accessed = accessed_keeps k;
+  changed = changed_keeps k;
   measured = λ f whole l. tt;
-  lengthened = lengthened_keeps by_name;
-  hash_read = hash_read_keeps by_name;
-  hash_bound = hash_bound_keeps by_name;
-  hash_looked_up = hash_looked_up_keeps by_name;
-  hash_put = put_keeps by_name;
-  hash_removed = removed_keeps by_name;
+  lengthened = lengthened_keeps k;
+  hash_read = hash_read_keeps k;
+  hash_bound = hash_bound_keeps k;
+  hash_looked_up = hash_looked_up_keeps k;
+  hash_put = put_keeps k;
+  hash_removed = removed_keeps k;
   hash_counted = λ f whole l. tt;
-  hash_cleared = cleared_keeps by_name;
+  hash_cleared = cleared_keeps k;
 }

@@ -4,3 +4,5 @@ pub mod PairLemmas
 pub mod StandingLemmas
 pub mod AlikeLemmas
 pub mod KeptFields
+pub mod CanonicalLemmas
+pub mod KindLemmas

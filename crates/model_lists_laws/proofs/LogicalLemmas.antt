@@ -1,5 +1,5 @@
 -- Lists and the ordinary objects that they are.
-use Rattle.std.proofs.Common.{◌≡◌, ℕ, zero, suc, ◌+◌, ◌<◌, List, [], ◌∷◌, Bool, true, false, Some, refl, ap, arith, sub-one}
+use Rattle.std.proofs.Common.{◌≡◌, ℕ, zero, suc, ◌+◌, ◌<◌, List, [], ◌∷◌, map, Bool, true, false, Some, refl, ap, arith, sub-one}
 use Rattle.std.specs.Prelude.{nat_eq, ◌&&◌, ◌||◌, unwrap_or, if◌then◌else◌}
 use Rattle.std.specs.Option.{is_some}
 use Rattle.std.proofs.lemmas.Bool.Decides.{nat_tests}
@@ -7,37 +7,38 @@ use Rattle.model_objects.specs.Object.{Object, Pair}
 use Rattle.model_symbols.specs.Opening.{opening, acl2_package, common_lisp_symbols, acl2_symbols, common_lisp_text, acl2_text}
 use Rattle.model_prims.specs.Kinds.{SymbolKind, by_name, by_number, nil_of, is_pair, same_object}
 use Rattle.model_prims.specs.Lists.{len, cdr, element, updated}
-use Rattle.model_lists.specs.Lists.{ObjectList, Value, Pairs, End, Item, size, item, with_item, resized, value_at, has_key, without_key, key_count, as_object}
+use Rattle.model_lists.specs.Lists.{StobjList, Value, Pairs, End, Item, size, item, with_item, resized, value_at, has_key, without_key, key_count, as_object}
 use Rattle.model_lists.specs.Types.{meets}
 use Rattle.model_lists.specs.Layouts.{Layout, Scalar, Array, Hash, Children, NoField, Field, initial, repeated, every, recognizes}
 use Rattle.model_lists.specs.Logical.{with_length, pair_with, without_pairs, keys_in}
-use Rattle.model_lists_laws.specs.Laws.{AreItems, IsLogical, HasInitials, IsRecognized, AreTypeWords}
+use Rattle.model_lists.specs.Listed.{list_of_parts, pair_part, listed, printed}
+use Rattle.model_lists_laws.specs.Laws.{AreItems, IsLogical, IsListed, HasInitials, IsRecognized, AreTypeWords}
 
 not_zero : (n : ℕ) → nat_eq (suc n) 0 ≡ false
 not_zero n = grind (arith, nat_tests)
 
 module _ {S : Type 0} (k : SymbolKind S) where
-  access : (n : ℕ) (l : ObjectList S) → AreItems l → as_object k (item n l) ≡ element k n (as_object k l)
+  access : (n : ℕ) (l : StobjList S) → AreItems l → as_object k (item n l) ≡ element k n (as_object k l)
   access n (Value o) h = absurd h
   access n (Pairs ps) h = absurd h
   access n End h = refl
   access zero (Item first rest) h = refl
   access (suc n) (Item first rest) h = rw (not_zero n, sub-one) (access n rest h)
 
-  update : (n : ℕ) (x l : ObjectList S) → n < size l → as_object k (with_item n x l) ≡ updated k n (as_object k x) (as_object k l)
+  update : (n : ℕ) (x l : StobjList S) → n < size l → as_object k (with_item n x l) ≡ updated k n (as_object k x) (as_object k l)
   update n x (Value o) h = absurd (omega arith)
   update n x (Pairs ps) h = absurd (omega arith)
   update n x End h = absurd (omega arith)
   update zero x (Item first rest) h = refl
   update (suc n) x (Item first rest) h = rw (not_zero n, sub-one) (ap (Pair (as_object k first)) (update n x rest (omega arith)))
 
-  items : (l : ObjectList S) → AreItems l → len (as_object k l) ≡ size l
+  items : (l : StobjList S) → AreItems l → len (as_object k l) ≡ size l
   items (Value o) h = absurd h
   items (Pairs ps) h = absurd h
   items End h = refl
   items (Item first rest) h = ap (λ (n : ℕ). n + 1) (items rest h)
 
-  resize : (n : ℕ) (x l : ObjectList S) → AreItems l → as_object k (resized n x l) ≡ with_length k n (as_object k x) (as_object k l)
+  resize : (n : ℕ) (x l : StobjList S) → AreItems l → as_object k (resized n x l) ≡ with_length k n (as_object k x) (as_object k l)
   resize zero x l h = refl
   resize (suc n) x (Value o) h = absurd h
   resize (suc n) x (Pairs ps) h = absurd h
@@ -81,15 +82,27 @@ module _ {S : Type 0} (k : SymbolKind S) where
       go true h = h
       go false h = ap (λ (n : ℕ). n + 1) h
 
+  -- ---- shapes
+
+  pairs_printed : (ps : List (Object S × Object S)) → printed k (list_of_parts (map pair_part ps)) ≡ as_object k (Pairs ps)
+  pairs_printed [] = refl
+  pairs_printed (p ∷ ps) = ap (Pair (Pair p.0 p.1)) (pairs_printed ps)
+
+  list_printed : (l : StobjList S) → printed k (listed l) ≡ as_object k l
+  list_printed (Value o) = refl
+  list_printed (Pairs ps) = pairs_printed ps
+  list_printed End = refl
+  list_printed (Item first rest) = rw (list_printed first, list_printed rest) refl
+
   -- ---- recognizers
 
   -- NIL is itself
   module _ (same_nil : k.same k.nil k.nil ≡ true) where
-    every_repeated : (passes : Object S → Bool) (n : ℕ) (x : ObjectList S) → passes (as_object k x) ≡ true → every k passes (as_object k (repeated n x)) ≡ true
+    every_repeated : (passes : Object S → Bool) (n : ℕ) (x : StobjList S) → passes (as_object k x) ≡ true → every k passes (as_object k (repeated n x)) ≡ true
     every_repeated passes zero x h = same_nil
     every_repeated passes (suc n) x h = rw h (every_repeated passes n x h)
 
-    len_repeated : (n : ℕ) (x : ObjectList S) → len (as_object k (repeated n x)) ≡ n
+    len_repeated : (n : ℕ) (x : StobjList S) → len (as_object k (repeated n x)) ≡ n
     len_repeated zero x = refl
     len_repeated (suc n) x = let e : len (as_object k (repeated n x)) ≡ n = len_repeated n x in omega (arith, e)
 
@@ -125,6 +138,9 @@ is_logical k = record {
   remove = remove k;
   count = count k;
 }
+
+pub is_listed : {S : Type 0} (k : SymbolKind S) → IsListed k
+is_listed k = record { object = list_printed k }
 
 pub is_recognized : IsRecognized
 is_recognized = record { named = recognized by_name refl; numbered = recognized by_number refl }

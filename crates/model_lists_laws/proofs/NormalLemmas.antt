@@ -15,7 +15,7 @@ use Rattle.model_symbols.proofs.NameLemmas.{same_name-Decides}
 use Rattle.model_objects.proofs.Ordered.{object_total, object_exact}
 use Rattle.model_symbols.specs.Symbols.{QualifiedName, symbol_at}
 use Rattle.model_prims.specs.Kinds.{SymbolKind, by_name, same_object}
-use Rattle.model_lists.specs.Lists.{ObjectList, Value, Pairs, End, Item, value_at}
+use Rattle.model_lists.specs.Lists.{StobjList, Value, Pairs, End, Item, value_at}
 use Rattle.model_lists.specs.Normal.{name_cmp, number_cmp, placed, put_in_order, normal_pairs, normal}
 use Rattle.model_lists_laws.specs.Laws.{IsNormal}
 
@@ -68,7 +68,7 @@ names_trans x y z h g = elim (then_less (bytes_cmp x.home y.home) (bytes_cmp x.n
 pub names_total : IsTotalOrder name_cmp
 names_total = record { antisymm = names_antisymm; trans = names_trans; congr = names_congr }
 
-numbers_total : (symbols : List QualifiedName) → IsTotalOrder (number_cmp symbols)
+pub numbers_total : (symbols : List QualifiedName) → IsTotalOrder (number_cmp symbols)
 numbers_total symbols = record {
   antisymm = λ x y. names_antisymm (symbol_at symbols x) (symbol_at symbols y);
   trans = λ x y z. names_trans (symbol_at symbols x) (symbol_at symbols y) (symbol_at symbols z);
@@ -126,11 +126,11 @@ module _ {S : Type 0} (names : S → S → Ordering) (total : IsTotalOrder names
   put_first p [] b = refl
   put_first p (q ∷ qs) b = rw b refl
 
-  normal_of_order : (ps : List Pairing) → InOrder ps → normal_pairs names ps ≡ ps
+  pub normal_of_order : (ps : List Pairing) → InOrder ps → normal_pairs names ps ≡ ps
   normal_of_order [] h = refl
   normal_of_order (p ∷ ps) h = rw (normal_of_order ps h.1) (put_first p ps h.0)
 
-  pub normal_twice : (l : ObjectList S) → normal names (normal names l) ≡ normal names l
+  pub normal_twice : (l : StobjList S) → normal names (normal names l) ≡ normal names l
   normal_twice (Value o) = refl
   normal_twice (Pairs ps) = ap Pairs (normal_of_order (normal_pairs names ps) (normal_in_order ps))
   normal_twice End = refl
@@ -169,16 +169,21 @@ module _ {S : Type 0} (k : SymbolKind S) (decides : (a b : S) → Decides (k.sam
       let parts : (same_object k a b ≡ true) × (same_object k d f ≡ true) = both (same_object k a b) (same_object k d f) e in
       rw (same_tells a b parts.0, same_tells d f parts.1) refl
 
-  module _ (names : S → S → Ordering) (total : IsTotalOrder names) (exact : CmpEqualImpliesEq names) where
+  module _ (names : S → S → Ordering) (total : IsTotalOrder names) where
     pub not_itself : (x : Object S) → object_cmp names x x ≡ Greater → ⊥
     not_itself x e = cc_less (ap ordering_reverse e) (sym ((object_total names total).antisymm x x) ∙ e)
       where
         cc_less : ordering_reverse (object_cmp names x x) ≡ Less → ordering_reverse (object_cmp names x x) ≡ Greater → ⊥
         cc_less l g = cc
 
-    value_put : (key : Object S) (p : Object S × Object S) (qs : List (Object S × Object S)) → value_at k key (put_in_order names p qs) ≡ (if same_object k key p.0 then Some p.1 else value_at k key qs)
-    value_put key p [] = refl
-    value_put key p (q ∷ qs) = go (object_cmp names p.0 q.0) refl (value_put key p qs)
+    -- the key of the pair is that of each pair with which it compares as equal
+    abbrev pub TellsFrom : Object S × Object S → List (Object S × Object S) → Type 0
+    TellsFrom p [] = Unit {0}
+    TellsFrom p (q ∷ qs) = (object_cmp names p.0 q.0 ≡ Equal → p.0 ≡ q.0) × TellsFrom p qs
+
+    pub value_put : (key : Object S) (p : Object S × Object S) (qs : List (Object S × Object S)) → TellsFrom p qs → value_at k key (put_in_order names p qs) ≡ (if same_object k key p.0 then Some p.1 else value_at k key qs)
+    value_put key p [] t = refl
+    value_put key p (q ∷ qs) t = go (object_cmp names p.0 q.0) refl (value_put key p qs t.1)
       where
         equal : p.0 ≡ q.0 → (if same_object k key p.0 then Some p.1 else value_at k key qs) ≡ (if same_object k key p.0 then Some p.1 else (if same_object k key q.0 then Some q.1 else value_at k key qs))
         equal e = rw (sym e) (chosen (same_object k key p.0))
@@ -199,12 +204,18 @@ module _ {S : Type 0} (k : SymbolKind S) (decides : (a b : S) → Decides (k.sam
         go : (o : Ordering) → object_cmp names p.0 q.0 ≡ o → value_at k key (put_in_order names p qs) ≡ (if same_object k key p.0 then Some p.1 else value_at k key qs)
             → value_at k key (placed names o p q qs (put_in_order names p qs)) ≡ (if same_object k key p.0 then Some p.1 else (if same_object k key q.0 then Some q.1 else value_at k key qs))
         go Less e h = refl
-        go Equal e h = equal (object_exact names exact p.0 q.0 e)
+        go Equal e h = equal (t.0 e)
         go Greater e h = rw h (greater e)
 
-    pub value_normal : (key : Object S) (ps : List (Object S × Object S)) → value_at k key (normal_pairs names ps) ≡ value_at k key ps
-    value_normal key [] = refl
-    value_normal key (p ∷ ps) = value_put key p (normal_pairs names ps) ∙ ap (λ (o : Option (Object S)). if same_object k key p.0 then Some p.1 else o) (value_normal key ps)
+    module _ (exact : CmpEqualImpliesEq names) where
+      tells_all : (p : Object S × Object S) (qs : List (Object S × Object S)) → TellsFrom p qs
+      tells_all p [] = tt
+      tells_all p (q ∷ qs) = (object_exact names exact p.0 q.0, tells_all p qs)
+
+      pub value_normal : (key : Object S) (ps : List (Object S × Object S)) → value_at k key (normal_pairs names ps) ≡ value_at k key ps
+      value_normal key [] = refl
+      value_normal key (p ∷ ps) =
+          value_put key p (normal_pairs names ps) (tells_all p (normal_pairs names ps)) ∙ ap (λ (o : Option (Object S)). if same_object k key p.0 then Some p.1 else o) (value_normal key ps)
 
 pub names_exact : CmpEqualImpliesEq name_cmp
 names_exact x y e =

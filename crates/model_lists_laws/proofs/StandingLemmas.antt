@@ -1,7 +1,8 @@
 -- Lists that stand for one object: their items, and items that are written.
 use Rattle.std.proofs.Common.{◌≡◌, ℕ, zero, suc, ◌+◌, refl, sym, ap, ◌∙◌, subst}
 use Rattle.std.specs.declared.cmp.Ordering.{Ordering}
-use Rattle.model_lists.specs.Lists.{ObjectList, Value, Pairs, End, Item, size, item, with_item, resized, pairs_of}
+use Rattle.model_prims.specs.Kinds.{SymbolKind}
+use Rattle.model_lists.specs.Lists.{StobjList, Value, Pairs, End, Item, size, item, with_item, first_of, rest_of, resized, pairs_of, scalar_of}
 use Rattle.model_lists.specs.Layouts.{Layout, Scalar, Array, Hash, Children, NoField, Field, initial, repeated, field_layout}
 use Rattle.model_lists.specs.Normal.{normal, normal_pairs}
 use Rattle.model_lists.specs.Standing.{AllItems, IsValue, HasFields, AreAlike}
@@ -10,64 +11,73 @@ use Rattle.model_lists_laws.specs.Standing.{NewObjectsStand}
 module _ {S : Type 0} (names : S → S → Ordering) where
   -- ---- normal lists
 
-  normal_item : (f : ℕ) (l : ObjectList S) → normal names (item f l) ≡ item f (normal names l)
+  normal_item : (f : ℕ) (l : StobjList S) → normal names (item f l) ≡ item f (normal names l)
   normal_item f (Value o) = refl
   normal_item f (Pairs ps) = refl
   normal_item f End = refl
   normal_item zero (Item first rest) = refl
   normal_item (suc f) (Item first rest) = normal_item f rest
 
-  normal_with : (f : ℕ) (x l : ObjectList S) → normal names (with_item f x l) ≡ with_item f (normal names x) (normal names l)
+  normal_with : (f : ℕ) (x l : StobjList S) → normal names (with_item f x l) ≡ with_item f (normal names x) (normal names l)
   normal_with f x (Value o) = refl
   normal_with f x (Pairs ps) = refl
   normal_with f x End = refl
   normal_with zero x (Item first rest) = refl
   normal_with (suc f) x (Item first rest) = ap (Item (normal names first)) (normal_with f x rest)
 
-  normal_size : (l : ObjectList S) → size (normal names l) ≡ size l
+  normal_size : (l : StobjList S) → size (normal names l) ≡ size l
   normal_size (Value o) = refl
   normal_size (Pairs ps) = refl
   normal_size End = refl
   normal_size (Item first rest) = ap (λ (n : ℕ). n + 1) (normal_size rest)
 
-  normal_pairs_of : (l : ObjectList S) → pairs_of (normal names l) ≡ normal_pairs names (pairs_of l)
+  normal_pairs_of : (l : StobjList S) → pairs_of (normal names l) ≡ normal_pairs names (pairs_of l)
   normal_pairs_of (Value o) = refl
   normal_pairs_of (Pairs ps) = refl
   normal_pairs_of End = refl
   normal_pairs_of (Item first rest) = refl
 
-  normal_value : (l : ObjectList S) → IsValue l → normal names l ≡ l
-  normal_value (Value o) h = refl
-  normal_value (Pairs ps) h = absurd h
-  normal_value End h = absurd h
-  normal_value (Item first rest) h = absurd h
+  normal_scalar : (k : SymbolKind S) (l : StobjList S) → scalar_of k (normal names l) ≡ scalar_of k l
+  normal_scalar k (Value o) = refl
+  normal_scalar k (Pairs ps) = refl
+  normal_scalar k End = refl
+  normal_scalar k (Item first rest) = refl
 
-  normal_values : (l : ObjectList S) → AllItems IsValue l → normal names l ≡ l
-  normal_values (Value o) h = absurd h
-  normal_values (Pairs ps) h = absurd h
-  normal_values End h = refl
-  normal_values (Item first rest) h = rw (normal_value first h.0, normal_values rest h.1) refl
+  normal_first : (fill l : StobjList S) → normal names (first_of fill l) ≡ first_of (normal names fill) (normal names l)
+  normal_first fill (Value o) = refl
+  normal_first fill (Pairs ps) = refl
+  normal_first fill End = refl
+  normal_first fill (Item first rest) = refl
+
+  normal_rest : (l : StobjList S) → normal names (rest_of l) ≡ rest_of (normal names l)
+  normal_rest (Value o) = refl
+  normal_rest (Pairs ps) = refl
+  normal_rest End = refl
+  normal_rest (Item first rest) = refl
+
+  normal_resized : (n : ℕ) (fill l : StobjList S) → normal names (resized n fill l) ≡ resized n (normal names fill) (normal names l)
+  normal_resized zero fill l = refl
+  normal_resized (suc n) fill l = rw (normal_first fill l, normal_resized n fill (rest_of l), normal_rest l) refl
 
   -- ---- lists that are alike
 
-  pub item_alike : (f : ℕ) (l m : ObjectList S) → AreAlike names l m → AreAlike names (item f l) (item f m)
+  pub item_alike : (f : ℕ) (l m : StobjList S) → AreAlike names l m → AreAlike names (item f l) (item f m)
   item_alike f l m h = normal_item f l ∙ (ap (item f) h ∙ sym (normal_item f m))
 
-  pub with_alike : (f : ℕ) (x y l m : ObjectList S) → AreAlike names x y → AreAlike names l m → AreAlike names (with_item f x l) (with_item f y m)
-  with_alike f x y l m g h = normal_with f x l ∙ (ap (λ (z : ObjectList S). with_item f z (normal names l)) g ∙ (ap (with_item f (normal names y)) h ∙ sym (normal_with f y m)))
+  pub with_alike : (f : ℕ) (x y l m : StobjList S) → AreAlike names x y → AreAlike names l m → AreAlike names (with_item f x l) (with_item f y m)
+  with_alike f x y l m g h = normal_with f x l ∙ (ap (λ (z : StobjList S). with_item f z (normal names l)) g ∙ (ap (with_item f (normal names y)) h ∙ sym (normal_with f y m)))
 
-  pub size_alike : (l m : ObjectList S) → AreAlike names l m → size l ≡ size m
+  pub size_alike : (l m : StobjList S) → AreAlike names l m → size l ≡ size m
   size_alike l m h = sym (normal_size l) ∙ (ap size h ∙ normal_size m)
 
-  pub pairs_alike : (l m : ObjectList S) → AreAlike names l m → normal_pairs names (pairs_of l) ≡ normal_pairs names (pairs_of m)
+  pub pairs_alike : (l m : StobjList S) → AreAlike names l m → normal_pairs names (pairs_of l) ≡ normal_pairs names (pairs_of m)
   pairs_alike l m h = sym (normal_pairs_of l) ∙ (ap pairs_of h ∙ normal_pairs_of m)
 
-  -- values that are alike are one
-  pub value_alike : (l m : ObjectList S) → IsValue l → IsValue m → AreAlike names l m → l ≡ m
-  value_alike l m g i h = sym (normal_value l g) ∙ (h ∙ normal_value m i)
+  pub scalar_alike : (k : SymbolKind S) (l m : StobjList S) → AreAlike names l m → scalar_of k l ≡ scalar_of k m
+  scalar_alike k l m h = sym (normal_scalar k l) ∙ (ap (scalar_of k) h ∙ normal_scalar k m)
 
-  pub values_alike : (l m : ObjectList S) → AllItems IsValue l → AllItems IsValue m → AreAlike names l m → l ≡ m
-  values_alike l m g i h = sym (normal_values l g) ∙ (h ∙ normal_values m i)
+  pub resized_alike : (n : ℕ) (fill l m : StobjList S) → AreAlike names l m → AreAlike names (resized n fill l) (resized n fill m)
+  resized_alike n fill l m h = normal_resized n fill l ∙ (ap (resized n (normal names fill)) h ∙ sym (normal_resized n fill m))
 
 -- ---- fields
 
@@ -81,7 +91,7 @@ IsField NoField = ⊥
 IsField (Field first others) = Unit {0}
 
 module _ {S : Type 0} where
-  has_field : (f : ℕ) (whole : Layout S) (l : ObjectList S) → HasFields whole l → IsField (field_layout f whole) → HasFields (field_layout f whole) (item f l)
+  pub has_field : (f : ℕ) (whole : Layout S) (l : StobjList S) → HasFields whole l → IsField (field_layout f whole) → HasFields (field_layout f whole) (item f l)
   has_field f (Scalar t o) l h i = absurd i
   has_field f (Array t o n resizable) l h i = absurd i
   has_field f (Hash test) l h i = absurd i
@@ -93,7 +103,7 @@ module _ {S : Type 0} where
   has_field zero (Field first others) (Item x rest) h i = h.0
   has_field (suc f) (Field first others) (Item x rest) h i = has_field f others rest h.1 i
 
-  with_field : (f : ℕ) (whole : Layout S) (x l : ObjectList S) → HasFields whole l → IsField (field_layout f whole) → HasFields (field_layout f whole) x → HasFields whole (with_item f x l)
+  pub with_field : (f : ℕ) (whole : Layout S) (x l : StobjList S) → HasFields whole l → IsField (field_layout f whole) → HasFields (field_layout f whole) x → HasFields whole (with_item f x l)
   with_field f (Scalar t o) x l h i g = absurd i
   with_field f (Array t o n resizable) x l h i g = absurd i
   with_field f (Hash test) x l h i g = absurd i
@@ -106,24 +116,24 @@ module _ {S : Type 0} where
   with_field (suc f) (Field first others) x (Item y rest) h i g = (h.0, with_field f others x rest h.1 i g)
 
   -- the same, of a field whose layout is known
-  pub field_of_layout : (layout : Layout S) (f : ℕ) (whole : Layout S) (l : ObjectList S) → field_layout f whole ≡ layout → IsField layout → HasFields whole l → HasFields layout (item f l)
+  pub field_of_layout : (layout : Layout S) (f : ℕ) (whole : Layout S) (l : StobjList S) → field_layout f whole ≡ layout → IsField layout → HasFields whole l → HasFields layout (item f l)
   field_of_layout layout f whole l e i h =
       subst (λ (y : Layout S). HasFields y (item f l)) e (has_field f whole l h (subst IsField (sym e) i))
 
-  pub with_field_of_layout : (layout : Layout S) (f : ℕ) (whole : Layout S) (x l : ObjectList S) → field_layout f whole ≡ layout → IsField layout → HasFields whole l → HasFields layout x → HasFields whole (with_item f x l)
+  pub with_field_of_layout : (layout : Layout S) (f : ℕ) (whole : Layout S) (x l : StobjList S) → field_layout f whole ≡ layout → IsField layout → HasFields whole l → HasFields layout x → HasFields whole (with_item f x l)
   with_field_of_layout layout f whole x l e i h g =
       with_field f whole x l h (subst IsField (sym e) i) (subst (λ (y : Layout S). HasFields y x) (sym e) g)
 
   -- ---- arrays
 
-  pub values_with : (i : ℕ) (x l : ObjectList S) → IsValue x → AllItems IsValue l → AllItems IsValue (with_item i x l)
+  pub values_with : (i : ℕ) (x l : StobjList S) → IsValue x → AllItems IsValue l → AllItems IsValue (with_item i x l)
   values_with i x (Value o) g h = absurd h
   values_with i x (Pairs ps) g h = absurd h
   values_with i x End g h = tt
   values_with zero x (Item first rest) g h = (g, h.1)
   values_with (suc i) x (Item first rest) g h = (h.0, values_with i x rest g h.1)
 
-  pub values_resized : (n : ℕ) (x l : ObjectList S) → IsValue x → AllItems IsValue l → AllItems IsValue (resized n x l)
+  pub values_resized : (n : ℕ) (x l : StobjList S) → IsValue x → AllItems IsValue l → AllItems IsValue (resized n x l)
   values_resized zero x l g h = tt
   values_resized (suc n) x (Value o) g h = absurd h
   values_resized (suc n) x (Pairs ps) g h = absurd h
@@ -132,7 +142,7 @@ module _ {S : Type 0} where
 
   -- ---- new objects
 
-  all_repeated : (Is : ObjectList S → Type 0) (n : ℕ) (x : ObjectList S) → Is x → AllItems Is (repeated n x)
+  all_repeated : (Is : StobjList S → Type 0) (n : ℕ) (x : StobjList S) → Is x → AllItems Is (repeated n x)
   all_repeated Is zero x h = tt
   all_repeated Is (suc n) x h = (h, all_repeated Is n x h)
 
@@ -144,7 +154,7 @@ module _ {S : Type 0} where
   new_fields NoField = tt
   new_fields (Field first others) = (new_fields first, new_fields others)
 
-  normal_repeated : (names : S → S → Ordering) (n : ℕ) (x : ObjectList S) → normal names x ≡ x → normal names (repeated n x) ≡ repeated n x
+  normal_repeated : (names : S → S → Ordering) (n : ℕ) (x : StobjList S) → normal names x ≡ x → normal names (repeated n x) ≡ repeated n x
   normal_repeated names zero x e = refl
   normal_repeated names (suc n) x e = rw (e, normal_repeated names n x e) refl
 

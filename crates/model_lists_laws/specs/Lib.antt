@@ -1,2 +1,4 @@
 pub mod Laws
 pub mod Standing
+pub mod Canonical
+pub mod Kinds

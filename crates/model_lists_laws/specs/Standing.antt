@@ -1,12 +1,14 @@
 -- What is said of lists that stand for one object, as laws.
 use Rattle.std.specs.Prelude.{◌≡◌, ℕ, List}
+use Rattle.std.specs.Bool.{Decides}
+use Rattle.std.specs.Cmp.{IsTotalOrder}
 use Rattle.std.specs.declared.cmp.Ordering.{Ordering}
-use Rattle.model_objects.specs.Object.{Object}
-use Rattle.model_symbols.specs.Symbols.{QualifiedName}
-use Rattle.model_prims.specs.Kinds.{by_name}
-use Rattle.model_lists.specs.Lists.{ObjectList}
+use Rattle.std.specs.declared.cmp.Ordering.TheVariants.{Equal}
+use Rattle.model_objects.specs.Object.{Object, object_cmp}
+use Rattle.model_prims.specs.Kinds.{SymbolKind, same_object}
+use Rattle.model_lists.specs.Lists.{StobjList}
 use Rattle.model_lists.specs.Layouts.{Layout, Scalar, Array, Hash, Children, NoField, Field, initial, field_layout}
-use Rattle.model_lists.specs.Normal.{name_cmp, normal}
+use Rattle.model_lists.specs.Normal.{normal}
 use Rattle.model_lists.specs.Standing.{HasFields, AreAlike}
 use Rattle.model_lists.specs.Generated.{Effect, Refuses, Reads, Writes, accessed, changed, measured, lengthened, hash_read, hash_bound, hash_looked_up, hash_put, hash_removed, hash_counted, hash_cleared}
 
@@ -43,53 +45,58 @@ IsHashField (Children n child) = ⊥
 IsHashField NoField = ⊥
 IsHashField (Field first others) = ⊥
 
--- what reading and writing give depends only on what the list stands for; scalars and arrays want lists that have their fields
-pub record ListsAreReadAlike : Type 0 where
-  pub accessed : (layout : Layout QualifiedName) (f : ℕ) (args : List (Object QualifiedName)) (whole : Layout QualifiedName) (l m : ObjectList QualifiedName)
-      → field_layout f whole ≡ layout → HasFields whole l → HasFields whole m → AreAlike name_cmp l m
-      → AlikeEffects name_cmp (accessed by_name layout f args l) (accessed by_name layout f args m)
-  pub changed : (layout : Layout QualifiedName) (f : ℕ) (args : List (Object QualifiedName)) (whole : Layout QualifiedName) (l m : ObjectList QualifiedName)
-      → field_layout f whole ≡ layout → HasFields whole l → HasFields whole m → AreAlike name_cmp l m
-      → AlikeEffects name_cmp (changed by_name layout f args l) (changed by_name layout f args m)
-  pub measured : (f : ℕ) (l m : ObjectList QualifiedName) → AreAlike name_cmp l m
-      → AlikeEffects name_cmp (measured by_name f l) (measured by_name f m)
-  pub lengthened : (layout : Layout QualifiedName) (f : ℕ) (args : List (Object QualifiedName)) (whole : Layout QualifiedName) (l m : ObjectList QualifiedName)
-      → field_layout f whole ≡ layout → HasFields whole l → HasFields whole m → AreAlike name_cmp l m
-      → AlikeEffects name_cmp (lengthened by_name layout f args l) (lengthened by_name layout f args m)
-  pub hash_read : (layout : Layout QualifiedName) (f : ℕ) (args : List (Object QualifiedName)) (l m : ObjectList QualifiedName) → AreAlike name_cmp l m
-      → AlikeEffects name_cmp (hash_read by_name layout f args l) (hash_read by_name layout f args m)
-  pub hash_bound : (layout : Layout QualifiedName) (f : ℕ) (args : List (Object QualifiedName)) (l m : ObjectList QualifiedName) → AreAlike name_cmp l m
-      → AlikeEffects name_cmp (hash_bound by_name layout f args l) (hash_bound by_name layout f args m)
-  pub hash_looked_up : (layout : Layout QualifiedName) (f : ℕ) (args : List (Object QualifiedName)) (l m : ObjectList QualifiedName) → AreAlike name_cmp l m
-      → AlikeEffects name_cmp (hash_looked_up by_name layout f args l) (hash_looked_up by_name layout f args m)
-  pub hash_put : (layout : Layout QualifiedName) (f : ℕ) (args : List (Object QualifiedName)) (l m : ObjectList QualifiedName) → AreAlike name_cmp l m
-      → AlikeEffects name_cmp (hash_put by_name layout f args l) (hash_put by_name layout f args m)
-  pub hash_removed : (layout : Layout QualifiedName) (f : ℕ) (args : List (Object QualifiedName)) (l m : ObjectList QualifiedName) → AreAlike name_cmp l m
-      → AlikeEffects name_cmp (hash_removed by_name layout f args l) (hash_removed by_name layout f args m)
-  pub hash_counted : (f : ℕ) (l m : ObjectList QualifiedName) → AreAlike name_cmp l m
-      → AlikeEffects name_cmp (hash_counted by_name f l) (hash_counted by_name f m)
-  pub hash_cleared : (f : ℕ) (l m : ObjectList QualifiedName) → AreAlike name_cmp l m
-      → AlikeEffects name_cmp (hash_cleared by_name f l) (hash_cleared by_name f m)
+module _ {S : Type 0} (k : SymbolKind S) (names : S → S → Ordering) where
+  -- a total order of symbols, in which objects are the same exactly where they compare as equal
+  pub record Orders : Type 0 where
+    pub total : IsTotalOrder names
+    pub exact : (s t : S) → names s t ≡ Equal → s ≡ t
+    pub same : (a b : Object S) → Decides (same_object k a b) (object_cmp names a b ≡ Equal)
 
--- what is written has the fields of the layout, and reading writes nothing; clearing asks for no key, so the field has to be a hash field
-pub record WritesKeepFields : Type 0 where
-  pub accessed : (layout : Layout QualifiedName) (f : ℕ) (args : List (Object QualifiedName)) (whole : Layout QualifiedName) (l : ObjectList QualifiedName)
-      → KeepsFields whole (accessed by_name layout f args l)
-  pub changed : (layout : Layout QualifiedName) (f : ℕ) (args : List (Object QualifiedName)) (whole : Layout QualifiedName) (l : ObjectList QualifiedName)
-      → field_layout f whole ≡ layout → HasFields whole l → KeepsFields whole (changed by_name layout f args l)
-  pub measured : (f : ℕ) (whole : Layout QualifiedName) (l : ObjectList QualifiedName) → KeepsFields whole (measured by_name f l)
-  pub lengthened : (layout : Layout QualifiedName) (f : ℕ) (args : List (Object QualifiedName)) (whole : Layout QualifiedName) (l : ObjectList QualifiedName)
-      → field_layout f whole ≡ layout → HasFields whole l → KeepsFields whole (lengthened by_name layout f args l)
-  pub hash_read : (layout : Layout QualifiedName) (f : ℕ) (args : List (Object QualifiedName)) (whole : Layout QualifiedName) (l : ObjectList QualifiedName)
-      → KeepsFields whole (hash_read by_name layout f args l)
-  pub hash_bound : (layout : Layout QualifiedName) (f : ℕ) (args : List (Object QualifiedName)) (whole : Layout QualifiedName) (l : ObjectList QualifiedName)
-      → KeepsFields whole (hash_bound by_name layout f args l)
-  pub hash_looked_up : (layout : Layout QualifiedName) (f : ℕ) (args : List (Object QualifiedName)) (whole : Layout QualifiedName) (l : ObjectList QualifiedName)
-      → KeepsFields whole (hash_looked_up by_name layout f args l)
-  pub hash_put : (layout : Layout QualifiedName) (f : ℕ) (args : List (Object QualifiedName)) (whole : Layout QualifiedName) (l : ObjectList QualifiedName)
-      → field_layout f whole ≡ layout → HasFields whole l → KeepsFields whole (hash_put by_name layout f args l)
-  pub hash_removed : (layout : Layout QualifiedName) (f : ℕ) (args : List (Object QualifiedName)) (whole : Layout QualifiedName) (l : ObjectList QualifiedName)
-      → field_layout f whole ≡ layout → HasFields whole l → KeepsFields whole (hash_removed by_name layout f args l)
-  pub hash_counted : (f : ℕ) (whole : Layout QualifiedName) (l : ObjectList QualifiedName) → KeepsFields whole (hash_counted by_name f l)
-  pub hash_cleared : (layout : Layout QualifiedName) (f : ℕ) (whole : Layout QualifiedName) (l : ObjectList QualifiedName)
-      → field_layout f whole ≡ layout → IsHashField layout → HasFields whole l → KeepsFields whole (hash_cleared by_name f l)
+  -- what reading and writing give depends only on what the list stands for
+  pub record ListsAreReadAlike : Type 0 where
+    pub accessed : (layout : Layout S) (f : ℕ) (args : List (Object S)) (l m : StobjList S) → AreAlike names l m
+        → AlikeEffects names (accessed k layout f args l) (accessed k layout f args m)
+    pub changed : (layout : Layout S) (f : ℕ) (args : List (Object S)) (l m : StobjList S) → AreAlike names l m
+        → AlikeEffects names (changed k layout f args l) (changed k layout f args m)
+    pub measured : (f : ℕ) (l m : StobjList S) → AreAlike names l m
+        → AlikeEffects names (measured k f l) (measured k f m)
+    pub lengthened : (layout : Layout S) (f : ℕ) (args : List (Object S)) (l m : StobjList S) → AreAlike names l m
+        → AlikeEffects names (lengthened k layout f args l) (lengthened k layout f args m)
+    pub hash_read : (layout : Layout S) (f : ℕ) (args : List (Object S)) (l m : StobjList S) → AreAlike names l m
+        → AlikeEffects names (hash_read k layout f args l) (hash_read k layout f args m)
+    pub hash_bound : (layout : Layout S) (f : ℕ) (args : List (Object S)) (l m : StobjList S) → AreAlike names l m
+        → AlikeEffects names (hash_bound k layout f args l) (hash_bound k layout f args m)
+    pub hash_looked_up : (layout : Layout S) (f : ℕ) (args : List (Object S)) (l m : StobjList S) → AreAlike names l m
+        → AlikeEffects names (hash_looked_up k layout f args l) (hash_looked_up k layout f args m)
+    pub hash_put : (layout : Layout S) (f : ℕ) (args : List (Object S)) (l m : StobjList S) → AreAlike names l m
+        → AlikeEffects names (hash_put k layout f args l) (hash_put k layout f args m)
+    pub hash_removed : (layout : Layout S) (f : ℕ) (args : List (Object S)) (l m : StobjList S) → AreAlike names l m
+        → AlikeEffects names (hash_removed k layout f args l) (hash_removed k layout f args m)
+    pub hash_counted : (f : ℕ) (l m : StobjList S) → AreAlike names l m
+        → AlikeEffects names (hash_counted k f l) (hash_counted k f m)
+    pub hash_cleared : (f : ℕ) (l m : StobjList S) → AreAlike names l m
+        → AlikeEffects names (hash_cleared k f l) (hash_cleared k f m)
+
+module _ {S : Type 0} (k : SymbolKind S) where
+  -- what is written has the fields of the layout, and reading writes nothing; clearing asks for no key, so the field has to be a hash field
+  pub record WritesKeepFields : Type 0 where
+    pub accessed : (layout : Layout S) (f : ℕ) (args : List (Object S)) (whole : Layout S) (l : StobjList S)
+        → KeepsFields whole (accessed k layout f args l)
+    pub changed : (layout : Layout S) (f : ℕ) (args : List (Object S)) (whole : Layout S) (l : StobjList S)
+        → field_layout f whole ≡ layout → HasFields whole l → KeepsFields whole (changed k layout f args l)
+    pub measured : (f : ℕ) (whole : Layout S) (l : StobjList S) → KeepsFields whole (measured k f l)
+    pub lengthened : (layout : Layout S) (f : ℕ) (args : List (Object S)) (whole : Layout S) (l : StobjList S)
+        → field_layout f whole ≡ layout → HasFields whole l → KeepsFields whole (lengthened k layout f args l)
+    pub hash_read : (layout : Layout S) (f : ℕ) (args : List (Object S)) (whole : Layout S) (l : StobjList S)
+        → KeepsFields whole (hash_read k layout f args l)
+    pub hash_bound : (layout : Layout S) (f : ℕ) (args : List (Object S)) (whole : Layout S) (l : StobjList S)
+        → KeepsFields whole (hash_bound k layout f args l)
+    pub hash_looked_up : (layout : Layout S) (f : ℕ) (args : List (Object S)) (whole : Layout S) (l : StobjList S)
+        → KeepsFields whole (hash_looked_up k layout f args l)
+    pub hash_put : (layout : Layout S) (f : ℕ) (args : List (Object S)) (whole : Layout S) (l : StobjList S)
+        → field_layout f whole ≡ layout → HasFields whole l → KeepsFields whole (hash_put k layout f args l)
+    pub hash_removed : (layout : Layout S) (f : ℕ) (args : List (Object S)) (whole : Layout S) (l : StobjList S)
+        → field_layout f whole ≡ layout → HasFields whole l → KeepsFields whole (hash_removed k layout f args l)
+    pub hash_counted : (f : ℕ) (whole : Layout S) (l : StobjList S) → KeepsFields whole (hash_counted k f l)
+    pub hash_cleared : (layout : Layout S) (f : ℕ) (whole : Layout S) (l : StobjList S)
+        → field_layout f whole ≡ layout → IsHashField layout → HasFields whole l → KeepsFields whole (hash_cleared k f l)

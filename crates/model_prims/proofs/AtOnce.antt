@@ -1,5 +1,5 @@
 -- What is too large is told without computing it.
-use Rattle.std.specs.Prelude.{◌≡◌, ℕ, zero, suc, ◌+◌, ◌-◌, ◌*◌, ◌/◌, ◌%◌, ◌^◌, ◌<◌, ◌≤◌, ◌==◌, Bool, true, false, Some, None, nat_lt, nat_eq, ℤ, pos, negsuc, ◌*ℤ◌, neg_ℤ, unsigned_abs, if◌then◌else◌, refl}
+use Rattle.std.specs.Prelude.{◌≡◌, ℕ, zero, suc, ◌+◌, ◌-◌, ◌*◌, ◌/◌, ◌%◌, ◌^◌, ◌<◌, ◌≤◌, ◌==◌, Bool, true, false, Some, None, nat_lt, nat_eq, not, ◌||◌, ℤ, pos, negsuc, ◌*ℤ◌, neg_ℤ, unsigned_abs, if◌then◌else◌, refl}
 use Rattle.std.proofs.Common.{arith, sym, ◌∙◌}
 use Rattle.std.proofs.Common.{subst}
 use Rattle.std.proofs.lemmas.Bool.Decides.{nat_tests, Decides-eqb, Decides-ltb}
@@ -134,9 +134,14 @@ lowered_is true i c f e = refl
 lowered_is false (pos a) c f e = rw (gone a c ((Decides-ltb a (2 ^ 127)).0 f) (not_below c 127 e), never a) refl
 lowered_is false (negsuc a) c f e = rw (gone a c ((Decides-ltb a (2 ^ 127)).0 f) (not_below c 127 e)) refl
 
-shift_is : (i c : ℤ) → fits_128 i ≡ true → shift_in_range i c ≡ in_range (shifted i c)
-shift_is i (pos c) f = raised_is (nat_eq (unsigned_abs i) 0) (nat_lt c 128) i c refl refl
-shift_is i (negsuc c) f = lowered_is (nat_lt c 127) i c f refl
+shift_is : (i c : ℤ) → shift_in_range i c ≡ in_range (shifted i c)
+shift_is i (pos c) = raised_is (nat_eq (unsigned_abs i) 0) (nat_lt c 128) i c refl refl
+shift_is i (negsuc c) = go (nat_lt c 127) refl (fits_128 i) refl
+  where
+    go : (short : Bool) → nat_lt c 127 ≡ short → (narrow : Bool) → fits_128 i ≡ narrow → lowered_by (short || not narrow) i (c + 1) ≡ in_range (int_shr i (c + 1))
+    go true e narrow f = refl
+    go false e true f = lowered_is false i c f e
+    go false e false f = refl
 
 pub is_at_once : IsAtOnce
 is_at_once = record {

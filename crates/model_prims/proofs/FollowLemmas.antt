@@ -42,7 +42,7 @@ module _ (t : Table) (i : IsTable t) where
       let names : Decides (same_name (symbol_at t.symbols m) (symbol_at t.symbols n)) (symbol_at t.symbols m ≡ symbol_at t.symbols n) = same_name-Decides (symbol_at t.symbols m) (symbol_at t.symbols n) in
       same_from_decides (same_name (symbol_at t.symbols m) (symbol_at t.symbols n)) (nat_eq m n) (λ e. apart m n k l (names.0 e), λ e. names.1 (ap (symbol_at t.symbols) e)) (Decides-eqb m n)
 
-  is_naming : NamesTruth t → IsNaming (symbol_at t.symbols) (λ s. s < length t.symbols)
+  pub is_naming : NamesTruth t → IsNaming (symbol_at t.symbols) (λ s. s < length t.symbols)
   is_naming n = record {
     same = named_apart;
     at_truth = symbol_at-is t.symbols truth _ n.at_truth;
@@ -58,15 +58,9 @@ ShiftsNarrow (Old o) = Unit {0}
 ShiftsNarrow (Number n) = Unit {0}
 ShiftsNarrow (Made o) = Unit {0}
 ShiftsNarrow (Power b n) = Unit {0}
-ShiftsNarrow (Shift i c) = fits_128 i ≡ true
+ShiftsNarrow (Shift i c) = Unit {0}
 ShiftsNarrow (Update n o l) = Unit {0}
 ShiftsNarrow (Interned name s) = Unit {0}
-
-fix_narrow : (x : Object ℕ) → has_narrow_integers x ≡ true → fits_128 (fix x) ≡ true
-fix_narrow (Integer n) e = e
-fix_narrow (Symbol s) e = refl
-fix_narrow (Text bytes) e = refl
-fix_narrow (Pair a d) e = refl
 
 without_sign_narrow : (x : Object ℕ) → ShiftsNarrow (without_sign by_number x)
 without_sign_narrow (Integer (pos n)) = tt
@@ -75,26 +69,26 @@ without_sign_narrow (Symbol s) = tt
 without_sign_narrow (Text bytes) = tt
 without_sign_narrow (Pair a d) = tt
 
-computed_narrow : (a : Arithmetic) (x y : Object ℕ) → has_narrow_integers x ≡ true → ShiftsNarrow (computed by_number a x y)
+computed_narrow : (a : Arithmetic) (x y : Object ℕ) → ShiftsNarrow (computed by_number a x y)
 unfolding computed
-computed_narrow arithmetic.Plus x y e = tt
-computed_narrow arithmetic.Times x y e = tt
-computed_narrow arithmetic.Minus x y e = tt
-computed_narrow arithmetic.Nfix x y e = tt
-computed_narrow arithmetic.Ifix x y e = tt
-computed_narrow arithmetic.Abs x y e = without_sign_narrow x
-computed_narrow arithmetic.Min x y e = tt
-computed_narrow arithmetic.Max x y e = tt
-computed_narrow arithmetic.Floor x y e = tt
-computed_narrow arithmetic.Mod x y e = tt
-computed_narrow arithmetic.Truncate x y e = tt
-computed_narrow arithmetic.Rem x y e = tt
-computed_narrow arithmetic.Expt x y e = tt
-computed_narrow arithmetic.Ash x y e = fix_narrow x e
-computed_narrow arithmetic.Lognot x y e = tt
-computed_narrow arithmetic.Logand x y e = tt
-computed_narrow arithmetic.Logior x y e = tt
-computed_narrow arithmetic.Logxor x y e = tt
+computed_narrow arithmetic.Plus x y = tt
+computed_narrow arithmetic.Times x y = tt
+computed_narrow arithmetic.Minus x y = tt
+computed_narrow arithmetic.Nfix x y = tt
+computed_narrow arithmetic.Ifix x y = tt
+computed_narrow arithmetic.Abs x y = without_sign_narrow x
+computed_narrow arithmetic.Min x y = tt
+computed_narrow arithmetic.Max x y = tt
+computed_narrow arithmetic.Floor x y = tt
+computed_narrow arithmetic.Mod x y = tt
+computed_narrow arithmetic.Truncate x y = tt
+computed_narrow arithmetic.Rem x y = tt
+computed_narrow arithmetic.Expt x y = tt
+computed_narrow arithmetic.Ash x y = tt
+computed_narrow arithmetic.Lognot x y = tt
+computed_narrow arithmetic.Logand x y = tt
+computed_narrow arithmetic.Logior x y = tt
+computed_narrow arithmetic.Logxor x y = tt
 
 listed_narrow : (l : Listing) (x y z : Object ℕ) → ShiftsNarrow (listed by_number l x y z)
 unfolding listed
@@ -127,14 +121,14 @@ named_narrow see naming.SymbolPackageName x y = tt
 named_narrow see naming.Intern x y = beside_narrow x y
 named_narrow see naming.StringAppend x y = tt
 
-wanted_narrow : (see : ℕ → QualifiedName) (p : Prim) (x y z : Object ℕ) → has_narrow_integers x ≡ true → ShiftsNarrow (wanted by_number see p x y z)
+wanted_narrow : (see : ℕ → QualifiedName) (p : Prim) (x y z : Object ℕ) → ShiftsNarrow (wanted by_number see p x y z)
 unfolding wanted
-wanted_narrow see (prim.Recognizer r) x y z e = tt
-wanted_narrow see (prim.Relation r) x y z e = tt
-wanted_narrow see (prim.Arithmetic a) x y z e = computed_narrow a x y e
-wanted_narrow see (prim.Listing l) x y z e = listed_narrow l x y z
-wanted_narrow see (prim.Naming n) x y z e = named_narrow see n x y
-wanted_narrow see prim.TheCheck x y z e = tt
+wanted_narrow see (prim.Recognizer r) x y z = tt
+wanted_narrow see (prim.Relation r) x y z = tt
+wanted_narrow see (prim.Arithmetic a) x y z = computed_narrow a x y
+wanted_narrow see (prim.Listing l) x y z = listed_narrow l x y z
+wanted_narrow see (prim.Naming n) x y z = named_narrow see n x y
+wanted_narrow see prim.TheCheck x y z = tt
 
 -- ---- what is given is the value
 
@@ -181,7 +175,7 @@ module _ (t : Table) (n : IsNaming (symbol_at t.symbols) (λ s. s < length t.sym
   bounded_follows (Number z) e = ranged t.symbols (fits_128 z) z
   bounded_follows (Made o) e = within t.symbols (nat_le (weight o) max_weight) o
   bounded_follows (Power b k) e = at_once t.symbols (power_in_range b k) (int_pow b k) (is_at_once.power b k)
-  bounded_follows (Shift i c) e = at_once t.symbols (shift_in_range i c) (shifted i c) (is_at_once.shift i c e)
+  bounded_follows (Shift i c) e = at_once t.symbols (shift_in_range i c) (shifted i c) (is_at_once.shift i c)
   bounded_follows (Update k o l) e = given_list (nat_le k max_weight) k o l
   bounded_follows (Interned name s) e = given_symbol (is_one_too_many t.symbols (beside t name s)) t.symbols (beside t name s)
 
@@ -189,17 +183,17 @@ module _ (t : Table) (n : IsNaming (symbol_at t.symbols) (λ s. s < length t.sym
   guarded_follows true w e = bounded_follows w e
   guarded_follows false w e = tt
 
-  applied_follows : (p : Prim) (x y z : Object ℕ) → Knows (length t.symbols) x → Knows (length t.symbols) y → has_narrow_integers x ≡ true
+  applied_follows : (p : Prim) (x y z : Object ℕ) → Knows (length t.symbols) x → Knows (length t.symbols) y
       → IsNamed (logic_value t.packages (wanted by_name (λ s. s) p (form_of t.symbols x) (form_of t.symbols y) (form_of t.symbols z))) (applied_to t p x y z)
   unfolding applied_to
-  applied_follows p x y z j k e =
+  applied_follows p x y z j k =
       subst (λ w. IsNamed (logic_value t.packages w) (guarded (guard by_number p x y z) t (wanted by_number (symbol_at t.symbols) p x y z)))
       (sym (wanted_by_name (symbol_at t.symbols) (λ s. s < length t.symbols) n p x y z j k))
-      (guarded_follows (guard by_number p x y z) (wanted by_number (symbol_at t.symbols) p x y z) (wanted_narrow (symbol_at t.symbols) p x y z e))
+      (guarded_follows (guard by_number p x y z) (wanted by_number (symbol_at t.symbols) p x y z) (wanted_narrow (symbol_at t.symbols) p x y z))
 
 pub follows_logic : FollowsLogic
 follows_logic = record {
-  follows = λ t p x y z o symbols i n j k l e g.
-      let follow : IsNamed (logic_value t.packages (wanted by_name (λ s. s) p (form_of t.symbols x) (form_of t.symbols y) (form_of t.symbols z))) (applied_to t p x y z) = applied_follows t (is_naming t i n) p x y z j k e in
+  follows = λ t p x y z o symbols i n j k l g.
+      let follow : IsNamed (logic_value t.packages (wanted by_name (λ s. s) p (form_of t.symbols x) (form_of t.symbols y) (form_of t.symbols z))) (applied_to t p x y z) = applied_follows t (is_naming t i n) p x y z j k in
       subst (IsNamed (logic_value t.packages (wanted by_name (λ s. s) p (form_of t.symbols x) (form_of t.symbols y) (form_of t.symbols z)))) g follow;
 }

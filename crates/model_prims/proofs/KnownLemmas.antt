@@ -24,29 +24,29 @@ either P true x y p q = p
 either P false x y p q = q
 
 module _ (P : ℕ → Type 0) (at_truth : P truth) (at_nil : P nil) where
-  truth_known : (b : Bool) → Symbols P (truth_of by_number b)
+  pub truth_known : (b : Bool) → Symbols P (truth_of by_number b)
   truth_known true = at_truth
   truth_known false = at_nil
 
-  car_known : (x : Object ℕ) → Symbols P x → Symbols P (car by_number x)
+  pub car_known : (x : Object ℕ) → Symbols P x → Symbols P (car by_number x)
   car_known (Integer n) p = at_nil
   car_known (Symbol s) p = at_nil
   car_known (Text bytes) p = at_nil
   car_known (Pair a d) p = p.0
 
-  cdr_known : (x : Object ℕ) → Symbols P x → Symbols P (cdr by_number x)
+  pub cdr_known : (x : Object ℕ) → Symbols P x → Symbols P (cdr by_number x)
   cdr_known (Integer n) p = at_nil
   cdr_known (Symbol s) p = at_nil
   cdr_known (Text bytes) p = at_nil
   cdr_known (Pair a d) p = p.1
 
-  element_known : (n : ℕ) (x : Object ℕ) → Symbols P x → Symbols P (element by_number n x)
+  pub element_known : (n : ℕ) (x : Object ℕ) → Symbols P x → Symbols P (element by_number n x)
   element_known n (Integer m) p = at_nil
   element_known n (Symbol s) p = at_nil
   element_known n (Text bytes) p = at_nil
   element_known n (Pair a d) p = either P (nat_eq n 0) a (element by_number (n - 1) d) p.0 (element_known (n - 1) d p.1)
 
-  padded_known : (n : ℕ) (o : Object ℕ) → Symbols P o → Symbols P (padded by_number n o)
+  pub padded_known : (n : ℕ) (o : Object ℕ) → Symbols P o → Symbols P (padded by_number n o)
   padded_known zero o p = (p, at_nil)
   padded_known (suc n) o p = (at_nil, padded_known n o p)
 
@@ -56,7 +56,7 @@ module _ (P : ℕ → Type 0) (at_truth : P truth) (at_nil : P nil) where
   updated_known n o (Text bytes) p q = padded_known n o p
   updated_known n o (Pair a d) p q = either P (nat_eq n 0) (Pair o d) (Pair a (updated by_number (n - 1) o d)) (p, q.1) (q.0, updated_known (n - 1) o d p q.1)
 
-  member_known : (x l : Object ℕ) → Symbols P l → Symbols P (member by_number x l)
+  pub member_known : (x l : Object ℕ) → Symbols P l → Symbols P (member by_number x l)
   member_known x (Integer m) p = at_nil
   member_known x (Symbol s) p = at_nil
   member_known x (Text bytes) p = at_nil

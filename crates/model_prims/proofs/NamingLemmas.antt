@@ -23,94 +23,94 @@ use Rattle.model_prims.specs.declared.prim.Listing.TheVariants as listing
 use Rattle.model_prims.specs.declared.prim.Naming.{Naming}
 use Rattle.model_prims.specs.declared.prim.Naming.TheVariants as naming
 
-if_named : (f : ℕ → QualifiedName) (b : Bool) (x y : Object ℕ) → named f (if b then x else y) ≡ (if b then named f x else named f y)
+pub if_named : (f : ℕ → QualifiedName) (b : Bool) (x y : Object ℕ) → named f (if b then x else y) ≡ (if b then named f x else named f y)
 if_named f true x y = refl
 if_named f false x y = refl
 
 -- ---- what does not look at symbols
 
-fix_named : (f : ℕ → QualifiedName) (x : Object ℕ) → fix (named f x) ≡ fix x
+pub fix_named : (f : ℕ → QualifiedName) (x : Object ℕ) → fix (named f x) ≡ fix x
 fix_named f (Integer n) = refl
 fix_named f (Symbol s) = refl
 fix_named f (Text bytes) = refl
 fix_named f (Pair a d) = refl
 
-natural_named : (f : ℕ → QualifiedName) (x : Object ℕ) → natural_of (named f x) ≡ natural_of x
+pub natural_named : (f : ℕ → QualifiedName) (x : Object ℕ) → natural_of (named f x) ≡ natural_of x
 natural_named f (Integer (pos n)) = refl
 natural_named f (Integer (negsuc n)) = refl
 natural_named f (Symbol s) = refl
 natural_named f (Text bytes) = refl
 natural_named f (Pair a d) = refl
 
-integer_named : (f : ℕ → QualifiedName) (x : Object ℕ) → is_integer (named f x) ≡ is_integer x
+pub integer_named : (f : ℕ → QualifiedName) (x : Object ℕ) → is_integer (named f x) ≡ is_integer x
 integer_named f (Integer n) = refl
 integer_named f (Symbol s) = refl
 integer_named f (Text bytes) = refl
 integer_named f (Pair a d) = refl
 
-symbol_named : (f : ℕ → QualifiedName) (x : Object ℕ) → is_symbol (named f x) ≡ is_symbol x
+pub symbol_named : (f : ℕ → QualifiedName) (x : Object ℕ) → is_symbol (named f x) ≡ is_symbol x
 symbol_named f (Integer n) = refl
 symbol_named f (Symbol s) = refl
 symbol_named f (Text bytes) = refl
 symbol_named f (Pair a d) = refl
 
-string_named : (f : ℕ → QualifiedName) (x : Object ℕ) → is_string (named f x) ≡ is_string x
+pub string_named : (f : ℕ → QualifiedName) (x : Object ℕ) → is_string (named f x) ≡ is_string x
 string_named f (Integer n) = refl
 string_named f (Symbol s) = refl
 string_named f (Text bytes) = refl
 string_named f (Pair a d) = refl
 
-pair_named : (f : ℕ → QualifiedName) (x : Object ℕ) → is_pair (named f x) ≡ is_pair x
+pub pair_named : (f : ℕ → QualifiedName) (x : Object ℕ) → is_pair (named f x) ≡ is_pair x
 pair_named f (Integer n) = refl
 pair_named f (Symbol s) = refl
 pair_named f (Text bytes) = refl
 pair_named f (Pair a d) = refl
 
-is_natural_named : (f : ℕ → QualifiedName) (x : Object ℕ) → is_natural (named f x) ≡ is_natural x
+pub is_natural_named : (f : ℕ → QualifiedName) (x : Object ℕ) → is_natural (named f x) ≡ is_natural x
 is_natural_named f (Integer (pos n)) = refl
 is_natural_named f (Integer (negsuc n)) = refl
 is_natural_named f (Symbol s) = refl
 is_natural_named f (Text bytes) = refl
 is_natural_named f (Pair a d) = refl
 
-is_positive_named : (f : ℕ → QualifiedName) (x : Object ℕ) → is_positive (named f x) ≡ is_positive x
+pub is_positive_named : (f : ℕ → QualifiedName) (x : Object ℕ) → is_positive (named f x) ≡ is_positive x
 is_positive_named f (Integer (pos n)) = refl
 is_positive_named f (Integer (negsuc n)) = refl
 is_positive_named f (Symbol s) = refl
 is_positive_named f (Text bytes) = refl
 is_positive_named f (Pair a d) = refl
 
-len_named : (f : ℕ → QualifiedName) (x : Object ℕ) → len (named f x) ≡ len x
+pub len_named : (f : ℕ → QualifiedName) (x : Object ℕ) → len (named f x) ≡ len x
 len_named f (Integer n) = refl
 len_named f (Symbol s) = refl
 len_named f (Text bytes) = refl
 len_named f (Pair a d) = ap (λ n. n + 1) (len_named f d)
 
-size_named : (f : ℕ → QualifiedName) (x : Object ℕ) → size_of (named f x) ≡ size_of x
+pub size_named : (f : ℕ → QualifiedName) (x : Object ℕ) → size_of (named f x) ≡ size_of x
 size_named f (Integer n) = refl
 size_named f (Symbol s) = refl
 size_named f (Text bytes) = refl
 size_named f (Pair a d) = len_named f (Pair a d)
 
-bytes_named : (f : ℕ → QualifiedName) (x : Object ℕ) → bytes_of (named f x) ≡ bytes_of x
+pub bytes_named : (f : ℕ → QualifiedName) (x : Object ℕ) → bytes_of (named f x) ≡ bytes_of x
 bytes_named f (Integer n) = refl
 bytes_named f (Symbol s) = refl
 bytes_named f (Text bytes) = refl
 bytes_named f (Pair a d) = refl
 
-appended_named : (f : ℕ → QualifiedName) (x y : Object ℕ) → appended (named f x) (named f y) ≡ named f (appended x y)
+pub appended_named : (f : ℕ → QualifiedName) (x y : Object ℕ) → appended (named f x) (named f y) ≡ named f (appended x y)
 appended_named f (Integer n) y = refl
 appended_named f (Symbol s) y = refl
 appended_named f (Text bytes) y = refl
 appended_named f (Pair a d) y = ap (Pair (named f a)) (appended_named f d y)
 
-revappended_named : (f : ℕ → QualifiedName) (x y : Object ℕ) → revappended (named f x) (named f y) ≡ named f (revappended x y)
+pub revappended_named : (f : ℕ → QualifiedName) (x y : Object ℕ) → revappended (named f x) (named f y) ≡ named f (revappended x y)
 revappended_named f (Integer n) y = refl
 revappended_named f (Symbol s) y = refl
 revappended_named f (Text bytes) y = refl
 revappended_named f (Pair a d) y = revappended_named f d (Pair a y)
 
-name_named : (f : ℕ → QualifiedName) (see : QualifiedName → List ℕ) (x : Object ℕ) → name_of by_name see (named f x) ≡ named f (name_of by_number (λ s. see (f s)) x)
+pub name_named : (f : ℕ → QualifiedName) (see : QualifiedName → List ℕ) (x : Object ℕ) → name_of by_name see (named f x) ≡ named f (name_of by_number (λ s. see (f s)) x)
 name_named f see (Integer n) = refl
 name_named f see (Symbol s) = refl
 name_named f see (Text bytes) = refl
@@ -119,32 +119,32 @@ name_named f see (Pair a d) = refl
 -- ---- what looks at symbols
 
 module _ (f : ℕ → QualifiedName) (P : ℕ → Type 0) (i : IsNaming f P) where
-  truth_named : (b : Bool) → truth_of by_name b ≡ named f (truth_of by_number b)
+  pub truth_named : (b : Bool) → truth_of by_name b ≡ named f (truth_of by_number b)
   truth_named true = ap Symbol (sym i.at_truth)
   truth_named false = ap Symbol (sym i.at_nil)
 
-  none_named : nil_of by_name ≡ named f (nil_of by_number)
+  pub none_named : nil_of by_name ≡ named f (nil_of by_number)
   none_named = ap Symbol (sym i.at_nil)
 
-  the_nil_named : (s : ℕ) → P s → same_name (f s) nil_name ≡ nat_eq s nil
+  pub the_nil_named : (s : ℕ) → P s → same_name (f s) nil_name ≡ nat_eq s nil
   the_nil_named s p = subst (λ (q : QualifiedName). same_name (f s) q ≡ nat_eq s nil) i.at_nil (i.same s nil p i.knows_nil)
 
-  the_truth_named : (s : ℕ) → P s → same_name (f s) truth_name ≡ nat_eq s truth
+  pub the_truth_named : (s : ℕ) → P s → same_name (f s) truth_name ≡ nat_eq s truth
   the_truth_named s p = subst (λ (q : QualifiedName). same_name (f s) q ≡ nat_eq s truth) i.at_truth (i.same s truth p i.knows_truth)
 
-  nil_named : (x : Object ℕ) → Symbols P x → is_nil by_name (named f x) ≡ is_nil by_number x
+  pub nil_named : (x : Object ℕ) → Symbols P x → is_nil by_name (named f x) ≡ is_nil by_number x
   nil_named (Integer n) p = refl
   nil_named (Symbol s) p = the_nil_named s p
   nil_named (Text bytes) p = refl
   nil_named (Pair a d) p = refl
 
-  boolean_named : (x : Object ℕ) → Symbols P x → is_boolean by_name (named f x) ≡ is_boolean by_number x
+  pub boolean_named : (x : Object ℕ) → Symbols P x → is_boolean by_name (named f x) ≡ is_boolean by_number x
   boolean_named (Integer n) p = refl
   boolean_named (Symbol s) p = rw (the_truth_named s p, the_nil_named s p) refl
   boolean_named (Text bytes) p = refl
   boolean_named (Pair a d) p = refl
 
-  same_named : (x y : Object ℕ) → Symbols P x → Symbols P y → same_object by_name (named f x) (named f y) ≡ same_object by_number x y
+  pub same_named : (x y : Object ℕ) → Symbols P x → Symbols P y → same_object by_name (named f x) (named f y) ≡ same_object by_number x y
   same_named (Integer m) (Integer n) p q = refl
   same_named (Integer m) (Symbol t) p q = refl
   same_named (Integer m) (Text b) p q = refl
@@ -162,38 +162,38 @@ module _ (f : ℕ → QualifiedName) (P : ℕ → Type 0) (i : IsNaming f P) whe
   same_named (Pair a d) (Text b) p q = refl
   same_named (Pair a d) (Pair b e) p q = rw (same_named a b p.0 q.0, same_named d e p.1 q.1) refl
 
-  true_list_named : (x : Object ℕ) → Symbols P x → is_true_list by_name (named f x) ≡ is_true_list by_number x
+  pub true_list_named : (x : Object ℕ) → Symbols P x → is_true_list by_name (named f x) ≡ is_true_list by_number x
   true_list_named (Integer n) p = refl
   true_list_named (Symbol s) p = the_nil_named s p
   true_list_named (Text bytes) p = refl
   true_list_named (Pair a d) p = true_list_named d p.1
 
-  alist_named : (x : Object ℕ) → Symbols P x → is_alist by_name (named f x) ≡ is_alist by_number x
+  pub alist_named : (x : Object ℕ) → Symbols P x → is_alist by_name (named f x) ≡ is_alist by_number x
   alist_named (Integer n) p = refl
   alist_named (Symbol s) p = the_nil_named s p
   alist_named (Text bytes) p = refl
   alist_named (Pair a d) p = rw (pair_named f a, alist_named d p.1) refl
 
-  car_named : (x : Object ℕ) → car by_name (named f x) ≡ named f (car by_number x)
+  pub car_named : (x : Object ℕ) → car by_name (named f x) ≡ named f (car by_number x)
   car_named (Integer n) = none_named
   car_named (Symbol s) = none_named
   car_named (Text bytes) = none_named
   car_named (Pair a d) = refl
 
-  cdr_named : (x : Object ℕ) → cdr by_name (named f x) ≡ named f (cdr by_number x)
+  pub cdr_named : (x : Object ℕ) → cdr by_name (named f x) ≡ named f (cdr by_number x)
   cdr_named (Integer n) = none_named
   cdr_named (Symbol s) = none_named
   cdr_named (Text bytes) = none_named
   cdr_named (Pair a d) = refl
 
-  element_named : (n : ℕ) (x : Object ℕ) → element by_name n (named f x) ≡ named f (element by_number n x)
+  pub element_named : (n : ℕ) (x : Object ℕ) → element by_name n (named f x) ≡ named f (element by_number n x)
   element_named n (Integer m) = none_named
   element_named n (Symbol s) = none_named
   element_named n (Text bytes) = none_named
   element_named n (Pair a d) =
       ap (λ r. if nat_eq n 0 then named f a else r) (element_named (n - 1) d) ∙ sym (if_named f (nat_eq n 0) a (element by_number (n - 1) d))
 
-  padded_named : (n : ℕ) (o : Object ℕ) → padded by_name n (named f o) ≡ named f (padded by_number n o)
+  pub padded_named : (n : ℕ) (o : Object ℕ) → padded by_name n (named f o) ≡ named f (padded by_number n o)
   padded_named zero o = ap (Pair (named f o)) none_named
   padded_named (suc n) o = ap (λ r. Pair (nil_of by_name) r) (padded_named n o) ∙ ap (λ r. Pair r (named f (padded by_number n o))) none_named
 
@@ -205,30 +205,30 @@ module _ (f : ℕ → QualifiedName) (P : ℕ → Type 0) (i : IsNaming f P) whe
       ap (λ r. if nat_eq n 0 then Pair (named f o) (named f d) else Pair (named f a) r) (updated_named (n - 1) o d)
       ∙ sym (if_named f (nat_eq n 0) (Pair o d) (Pair a (updated by_number (n - 1) o d)))
 
-  member_named : (x l : Object ℕ) → Symbols P x → Symbols P l → member by_name (named f x) (named f l) ≡ named f (member by_number x l)
+  pub member_named : (x l : Object ℕ) → Symbols P x → Symbols P l → member by_name (named f x) (named f l) ≡ named f (member by_number x l)
   member_named x (Integer m) p q = none_named
   member_named x (Symbol s) p q = none_named
   member_named x (Text bytes) p q = none_named
   member_named x (Pair a d) p q =
       rw (same_named x a p q.0, member_named x d p q.1) (sym (if_named f (same_object by_number x a) (Pair a d) (member by_number x d)))
 
-  is_member_named : (x l : Object ℕ) → Symbols P x → Symbols P l → is_member by_name (named f x) (named f l) ≡ is_member by_number x l
+  pub is_member_named : (x l : Object ℕ) → Symbols P x → Symbols P l → is_member by_name (named f x) (named f l) ≡ is_member by_number x l
   is_member_named x l p q = ap is_pair (member_named x l p q) ∙ pair_named f (member by_number x l)
 
-  union_named : (x y : Object ℕ) → Symbols P x → Symbols P y → union by_name (named f x) (named f y) ≡ named f (union by_number x y)
+  pub union_named : (x y : Object ℕ) → Symbols P x → Symbols P y → union by_name (named f x) (named f y) ≡ named f (union by_number x y)
   union_named (Integer m) y p q = refl
   union_named (Symbol s) y p q = refl
   union_named (Text bytes) y p q = refl
   union_named (Pair a d) y p q =
       rw (is_member_named a y p.0 q, union_named d y p.1 q) (sym (if_named f (is_member by_number a y) (union by_number d y) (Pair a (union by_number d y))))
 
-  car_symbols : (x : Object ℕ) → Symbols P x → Symbols P (car by_number x)
+  pub car_symbols : (x : Object ℕ) → Symbols P x → Symbols P (car by_number x)
   car_symbols (Integer n) p = i.knows_nil
   car_symbols (Symbol s) p = i.knows_nil
   car_symbols (Text bytes) p = i.knows_nil
   car_symbols (Pair a d) p = p.0
 
-  assoc_named : (x l : Object ℕ) → Symbols P x → Symbols P l → assoc by_name (named f x) (named f l) ≡ named f (assoc by_number x l)
+  pub assoc_named : (x l : Object ℕ) → Symbols P x → Symbols P l → assoc by_name (named f x) (named f l) ≡ named f (assoc by_number x l)
   assoc_named x (Integer m) p q = none_named
   assoc_named x (Symbol s) p q = none_named
   assoc_named x (Text bytes) p q = none_named
@@ -236,10 +236,10 @@ module _ (f : ℕ → QualifiedName) (P : ℕ → Type 0) (i : IsNaming f P) whe
       let first : same_object by_name (named f x) (car by_name (named f a)) ≡ same_object by_number x (car by_number a) = ap (same_object by_name (named f x)) (car_named a) ∙ same_named x (car by_number a) p (car_symbols a q.0) in
       rw (first, assoc_named x d p q.1) (sym (if_named f (same_object by_number x (car by_number a)) a (assoc by_number x d)))
 
-  zero_named : (x : Object ℕ) → Symbols P x → same_object by_name (named f x) (Integer (pos 0)) ≡ same_object by_number x (Integer (pos 0))
+  pub zero_named : (x : Object ℕ) → Symbols P x → same_object by_name (named f x) (Integer (pos 0)) ≡ same_object by_number x (Integer (pos 0))
   zero_named x p = same_named x (Integer (pos 0)) p tt
 
-  recognized_named : (r : Recognizer) (x : Object ℕ) → Symbols P x → recognized by_name r (named f x) ≡ recognized by_number r x
+  pub recognized_named : (r : Recognizer) (x : Object ℕ) → Symbols P x → recognized by_name r (named f x) ≡ recognized by_number r x
   unfolding recognized
   recognized_named recognizer.Consp x p = pair_named f x
   recognized_named recognizer.Atom x p = ap not (pair_named f x)
@@ -258,7 +258,7 @@ module _ (f : ℕ → QualifiedName) (P : ℕ → Type 0) (i : IsNaming f P) whe
   recognized_named recognizer.Zp x p = ap not (is_positive_named f x)
   recognized_named recognizer.Zip x p = rw (integer_named f x, zero_named x p) refl
 
-  related_named : (r : Relation) (x y : Object ℕ) → Symbols P x → Symbols P y → related by_name r (named f x) (named f y) ≡ related by_number r x y
+  pub related_named : (r : Relation) (x y : Object ℕ) → Symbols P x → Symbols P y → related by_name r (named f x) (named f y) ≡ related by_number r x y
   unfolding related
   related_named relation.Eq x y p q = same_named x y p q
   related_named relation.Eql x y p q = same_named x y p q
@@ -269,7 +269,7 @@ module _ (f : ℕ → QualifiedName) (P : ℕ → Type 0) (i : IsNaming f P) whe
   related_named relation.Implies x y p q = rw (nil_named x p, nil_named y q) refl
   related_named relation.Iff x y p q = rw (nil_named x p, nil_named y q) refl
 
-  without_sign_named : (x : Object ℕ) → without_sign by_name (named f x) ≡ wanted_named f (without_sign by_number x)
+  pub without_sign_named : (x : Object ℕ) → without_sign by_name (named f x) ≡ wanted_named f (without_sign by_number x)
   without_sign_named (Integer (pos n)) = refl
   without_sign_named (Integer (negsuc n)) = refl
   without_sign_named (Symbol s) = refl
@@ -279,7 +279,7 @@ module _ (f : ℕ → QualifiedName) (P : ℕ → Type 0) (i : IsNaming f P) whe
   old_if : (b c : Bool) (x y : Object ℕ) → b ≡ c → Old (if b then named f x else named f y) ≡ wanted_named f (Old (if c then x else y))
   old_if b c x y e = rw e (ap Old (sym (if_named f c x y)))
 
-  computed_named : (a : Arithmetic) (x y : Object ℕ) → computed by_name a (named f x) (named f y) ≡ wanted_named f (computed by_number a x y)
+  pub computed_named : (a : Arithmetic) (x y : Object ℕ) → computed by_name a (named f x) (named f y) ≡ wanted_named f (computed by_number a x y)
   unfolding computed
   computed_named arithmetic.Plus x y = rw (fix_named f x, fix_named f y) refl
   computed_named arithmetic.Times x y = rw (fix_named f x, fix_named f y) refl
@@ -300,7 +300,7 @@ module _ (f : ℕ → QualifiedName) (P : ℕ → Type 0) (i : IsNaming f P) whe
   computed_named arithmetic.Logior x y = rw (fix_named f x, fix_named f y) refl
   computed_named arithmetic.Logxor x y = rw (fix_named f x, fix_named f y) refl
 
-  listed_named : (l : Listing) (x y z : Object ℕ) → Symbols P x → Symbols P y → listed by_name l (named f x) (named f y) (named f z) ≡ wanted_named f (listed by_number l x y z)
+  pub listed_named : (l : Listing) (x y z : Object ℕ) → Symbols P x → Symbols P y → listed by_name l (named f x) (named f y) (named f z) ≡ wanted_named f (listed by_number l x y z)
   unfolding listed
   listed_named listing.Car x y z p q = ap Old (car_named x)
   listed_named listing.Cdr x y z p q = ap Old (cdr_named x)
@@ -315,7 +315,7 @@ module _ (f : ℕ → QualifiedName) (P : ℕ → Type 0) (i : IsNaming f P) whe
   listed_named listing.Assoc x y z p q = ap Old (assoc_named x y p q)
   listed_named listing.Union x y z p q = ap Made (union_named x y p q)
 
-  beside_named : (x y : Object ℕ) → interned_beside by_name (named f x) (named f y) ≡ wanted_named f (interned_beside by_number x y)
+  pub beside_named : (x y : Object ℕ) → interned_beside by_name (named f x) (named f y) ≡ wanted_named f (interned_beside by_number x y)
   beside_named (Text bytes) (Symbol s) = refl
   beside_named (Text bytes) (Integer n) = ap Old none_named
   beside_named (Text bytes) (Text b) = ap Old none_named
@@ -324,7 +324,7 @@ module _ (f : ℕ → QualifiedName) (P : ℕ → Type 0) (i : IsNaming f P) whe
   beside_named (Symbol s) y = ap Old none_named
   beside_named (Pair a d) y = ap Old none_named
 
-  named_by_named : (n : Naming) (x y : Object ℕ) → named_by by_name (λ s. s) n (named f x) (named f y) ≡ wanted_named f (named_by by_number f n x y)
+  pub named_by_named : (n : Naming) (x y : Object ℕ) → named_by by_name (λ s. s) n (named f x) (named f y) ≡ wanted_named f (named_by by_number f n x y)
   unfolding named_by
   named_by_named naming.SymbolName x y = ap Made (name_named f (λ q. q.name) x)
   named_by_named naming.SymbolPackageName x y = ap Made (name_named f (λ q. q.home) x)

@@ -1,5 +1,5 @@
 -- What a checked primitive gives of values is a value.
-use Rattle.std.specs.Prelude.{◌≡◌, ℕ, zero, suc, ◌+◌, ◌-◌, ◌≤◌, ◌*ℤ◌, ◌^◌, List, Bool, true, false, ◌&&◌, Option, Some, None, IfSome, ℤ, pos, negsuc, nat_eq, nat_lt, nat_le, int_lt, unsigned_abs, if◌then◌else◌, refl}
+use Rattle.std.specs.Prelude.{◌≡◌, ℕ, zero, suc, ◌+◌, ◌-◌, ◌≤◌, ◌*ℤ◌, ◌^◌, List, Bool, true, false, ◌&&◌, ◌||◌, not, Option, Some, None, IfSome, ℤ, pos, negsuc, nat_eq, nat_lt, nat_le, int_lt, unsigned_abs, if◌then◌else◌, refl}
 use Rattle.std.proofs.Common.{arith, sym, subst}
 use Rattle.std.proofs.lemmas.Bool.Decides.{nat_tests}
 use Rattle.std.specs.Int.{int_pow, int_shr}
@@ -269,7 +269,7 @@ lowered_is false i c = sign_is (int_lt i (pos 0))
 
 shift_is : (i c : ℤ) → IsInRange (shift_in_range i c)
 shift_is i (pos c) = raised_is (nat_eq (unsigned_abs i) 0) (nat_lt c 128) i c
-shift_is i (negsuc c) = lowered_is (nat_lt c 127) i (c + 1)
+shift_is i (negsuc c) = lowered_is (nat_lt c 127 || not (fits_128 i)) i (c + 1)
 
 number_value : (ss : List QualifiedName) (r : Option ℤ) → IsInRange r → HasValue (number_or ss r)
 number_value ss (Some n) f = value_is (Integer n) (f, omega arith)

@@ -60,7 +60,7 @@ pub record IsBitwise : Type 0 where
 -- what is found without computing a number, or a list, that is too large, is what computing it would tell
 pub record IsAtOnce : Type 0 where
   pub power : (b : ℤ) (n : ℕ) → power_in_range b n ≡ in_range (int_pow b n)
-  pub shift : (i c : ℤ) → fits_128 i ≡ true → shift_in_range i c ≡ in_range (shifted i c)
+  pub shift : (i c : ℤ) → shift_in_range i c ≡ in_range (shifted i c)
   pub update : (n : ℕ) (o l : Object ℕ) → max_weight < n → max_weight < weight (updated by_number n o l)
 
 -- `T` and `NIL` have the numbers that the primitives take them to have
@@ -71,6 +71,6 @@ pub record NamesTruth (t : Table) : Type 0 where
 -- what a checked primitive gives is its value in the logic, symbols by name
 pub record FollowsLogic : Type 0 where
   pub follows : (t : Table) (p : Prim) (x y z o : Object ℕ) (symbols : List QualifiedName) → IsTable t → NamesTruth t
-      → Knows (length t.symbols) x → Knows (length t.symbols) y → Knows (length t.symbols) z → has_narrow_integers x ≡ true
+      → Knows (length t.symbols) x → Knows (length t.symbols) y → Knows (length t.symbols) z
       → applied_to t p x y z ≡ Gives o symbols
       → logic_value t.packages (wanted by_name (λ s. s) p (form_of t.symbols x) (form_of t.symbols y) (form_of t.symbols z)) ≡ form_of symbols o

@@ -1,5 +1,5 @@
 -- The arithmetic of the primitives, on integers of any size.
-use Rattle.std.specs.Prelude.{ℕ, zero, suc, ◌+◌, ◌-◌, ◌/◌, ◌%◌, ◌^◌, ℤ, pos, negsuc, ◌-ℤ◌, ◌*ℤ◌, neg_ℤ, Bool, true, false, Option, Some, None, nat_eq, nat_lt, bit_and, bit_or, bit_xor, unsigned_abs, int_div, int_lt, if◌then◌else◌}
+use Rattle.std.specs.Prelude.{ℕ, zero, suc, ◌+◌, ◌-◌, ◌/◌, ◌%◌, ◌^◌, ℤ, pos, negsuc, ◌-ℤ◌, ◌*ℤ◌, neg_ℤ, Bool, true, false, Option, Some, None, nat_eq, nat_lt, not, ◌||◌, bit_and, bit_or, bit_xor, unsigned_abs, int_div, int_lt, if◌then◌else◌}
 use Rattle.std.specs.Int.{int_pow, int_shr}
 use Rattle.model_objects.specs.Object.{Object, Integer, Symbol, Text, Pair, fits_128}
 
@@ -100,8 +100,8 @@ abbrev pub lowered_by : Bool → ℤ → ℕ → Option ℤ
 lowered_by true i c = in_range (int_shr i c)
 lowered_by false i c = Some (if int_lt i (pos 0) then negsuc 0 else pos 0)
 
--- i, which is in range, times 2 to the c, rounded down, where that is in range: of another integer than 0 only shifts
--- by less than 128 can be, and a shift down by 128 or more leaves 0 or -1
+-- i times 2 to the c, rounded down, where that is in range: of another integer than 0 only shifts by less than 128 can be,
+-- and of an integer that is in range a shift down by 128 or more leaves 0 or -1
 abbrev pub shift_in_range : ℤ → ℤ → Option ℤ
 shift_in_range i (pos c) = raised_by (nat_eq (unsigned_abs i) 0) (nat_lt c 128) i c
-shift_in_range i (negsuc c) = lowered_by (nat_lt c 127) i (c + 1)
+shift_in_range i (negsuc c) = lowered_by (nat_lt c 127 || not (fits_128 i)) i (c + 1)

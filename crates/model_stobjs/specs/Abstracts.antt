@@ -10,10 +10,10 @@ use Rattle.model_terms.specs.declared.role.AbstractRole.{AbstractRole}
 use Rattle.model_terms.specs.declared.role.AbstractRole.TheVariants as abstract_role
 use Rattle.model_terms.specs.Cores.{Core, Var}
 use Rattle.model_terms.specs.Worlds.{World, Out, Ordinary, Stobj, Signature, Entry, Scope, Function, Descriptor, AbstractFunction, AbstractDescriptor, FunctionOfAbstract, Definition, Primitive, Defined, Macro, Constant, Concrete, Generated, Abstract, OfAbstract, Named, Signed, definition}
-use Rattle.model_terms.specs.Classes.{objects}
+use Rattle.model_terms.specs.Classes.{stobjs}
 use Rattle.model_terms.specs.Outputs.{signature_of}
 use Rattle.model_terms.specs.Children.{descriptor_of, is_internal, is_executable}
-use Rattle.model_terms.specs.Nested.{is_object, same_kinds}
+use Rattle.model_terms.specs.Nested.{is_stobj, same_kinds}
 use Rattle.model_terms.specs.Faults.{Fault, first_fault}
 use Rattle.model_terms.specs.Sites.{one_ordinary}
 use Rattle.model_expansion.specs.Words.{defabsstobj_word}
@@ -21,7 +21,7 @@ use Rattle.model_expansion.specs.Forms.{elements, each, each_of, symbol, among, 
 use Rattle.model_expansion.specs.TypeTerms.{true_core}
 use Rattle.model_expansion.specs.Faults.{Refusal, BadShape, Expand, FoundationNotConcrete, MissingFunction, SignatureMismatch, GuardNotExecutable}
 use Rattle.model_expansion.specs.Expansion.{Progress}
-use Rattle.model_stobjs.specs.Answers.{Answer, Grants, unless, needing, first_given}
+use Rattle.model_stobjs.specs.Answers.{EventResult, Grants, unless, needing, first_given}
 use Rattle.model_stobjs.specs.Heads.{name_in_use, bad_name}
 use Rattle.model_stobjs.specs.Keys.{Keyed, key_value, is_given, keys_in}
 use Rattle.model_stobjs.specs.Objects.{Making, MadeNames, symbol_beside, names_made, number_at, room_for}
@@ -286,7 +286,7 @@ module _ (w : World) where
 
   abbrev pub exec_matches : ℕ → AbstractFunction → Bool
   exec_matches c f =
-      may_be_exec_of (definition w f.exec) && (is_only c (objects (signature f.exec).ins) && is_only_or_none c (objects (signature f.exec).outs))
+      may_be_exec_of (definition w f.exec) && (is_only c (stobjs (signature f.exec).ins) && is_only_or_none c (stobjs (signature f.exec).outs))
 
   -- as many outputs; where there are several, one of a function that does not run stands for their list
   abbrev pub outputs_match : AbstractFunction → Bool
@@ -311,7 +311,7 @@ module _ (w : World) where
   are_good_formals d exec [] es xs = true
   are_good_formals d exec (k ∷ ks) [] xs = true
   are_good_formals d exec (k ∷ ks) (e ∷ es) [] = true
-  are_good_formals d exec (k ∷ ks) (e ∷ es) (x ∷ xs) = (is_object k || is_good_formal d exec x e) && are_good_formals d exec ks es xs
+  are_good_formals d exec (k ∷ ks) (e ∷ es) (x ∷ xs) = (is_stobj k || is_good_formal d exec x e) && are_good_formals d exec ks es xs
 
   abbrev pub export_matches : AbstractDescriptor → AbstractFunction → Bool
   export_matches d f =
@@ -330,7 +330,7 @@ module _ (w : World) where
   abbrev pub with_object_named : ℕ → List Out → List ℕ → List ℕ
   with_object_named st [] xs = []
   with_object_named st (k ∷ ks) [] = []
-  with_object_named st (k ∷ ks) (x ∷ xs) = (if is_object k then st else x) ∷ with_object_named st ks xs
+  with_object_named st (k ∷ ks) (x ∷ xs) = (if is_stobj k then st else x) ∷ with_object_named st ks xs
 
   -- the foundation's kind becomes the object's
   abbrev pub abstracted : ℕ → Out → Out
@@ -409,16 +409,16 @@ module _ (w : World) where
       (option_or (foundation_missing d)
       (option_or (first_given missing_function (wanted_functions d)) (option_or (signature_mismatch d) (first_given (guard_fault d) d.exports))))
 
-  abbrev pub made_then : WrittenAbstract → MadeNames → Progress → Answer AbstractDescriptor
+  abbrev pub made_then : WrittenAbstract → MadeNames → Progress → EventResult AbstractDescriptor
   made_then a m p =
       unless (room_for m) (λ after.
       let d = descriptor_with w a (filled (slots p.symbols a) m.numbers) in
       unless (function_refusal d) (Grants d) after) (record p { symbols = m.symbols })
 
-  abbrev pub abstract_then : List Package → WrittenAbstract → Progress → Answer AbstractDescriptor
+  abbrev pub abstract_then : List Package → WrittenAbstract → Progress → EventResult AbstractDescriptor
   abstract_then packages a p =
       unless (bad_name p.symbols (names_tested packages p.symbols a)) (λ after. made_then a (names_made packages [] (makings (slots after.symbols a)) after.symbols) after) p
 
   -- the descriptor of what stands behind the head `DEFABSSTOBJ`
-  unfoldable pub abstract_read : List Package → Object ℕ → Progress → Answer AbstractDescriptor
+  unfoldable pub abstract_read : List Package → Object ℕ → Progress → EventResult AbstractDescriptor
   abstract_read packages d p = needing (written_abstract p.symbols d) (Expand (BadShape defabsstobj_word)) (abstract_then packages) p

@@ -78,5 +78,5 @@ class_for w d = go d.congruent_to where
   go None = d.name
   go (Some old) = unwrap_or (class_of w old) old
 
-abbrev pub object_entries : World → Descriptor → World
-object_entries w d = Concrete d (class_for w d) ∷ map Generated (generated_functions d)
+abbrev pub stobj_entries : World → Descriptor → World
+stobj_entries w d = Concrete d (class_for w d) ∷ map Generated (generated_functions d)

@@ -17,7 +17,7 @@ use Rattle.model_expansion.specs.Forms.{elements, each, each_of, is, symbol, nam
 use Rattle.model_expansion.specs.TypeTerms.{accepted_type}
 use Rattle.model_expansion.specs.Faults.{Refusal, BadShape, Expand, BadType, BadInitial, SymbolLimit, CongruenceMismatch}
 use Rattle.model_expansion.specs.Expansion.{Progress}
-use Rattle.model_stobjs.specs.Answers.{Answer, Grants, Refuses, unless, needing, then_grant, first_given}
+use Rattle.model_stobjs.specs.Answers.{EventResult, Grants, Refuses, unless, needing, then_grant, first_given}
 use Rattle.model_stobjs.specs.Heads.{name_in_use, bad_name}
 use Rattle.model_stobjs.specs.Keys.{Keyed, key_value, keys_in}
 
@@ -364,21 +364,21 @@ names_of_field f = f.made
 abbrev pub new_names : Descriptor → List ℕ
 new_names d = d.name ∷ d.recognizer ∷ d.creator ∷ flat_map names_of_field d.fields
 
-abbrev pub named_descriptor : World → Descriptor → Progress → Answer Descriptor
+abbrev pub named_descriptor : World → Descriptor → Progress → EventResult Descriptor
 named_descriptor w d p = unless (option_or (name_in_use w (new_names d)) (mismatch w d)) (Grants d) p
 
-abbrev pub descriptor_made : World → WrittenObject → List ShapedField → MadeNames → Progress → Answer Descriptor
+abbrev pub descriptor_made : World → WrittenObject → List ShapedField → MadeNames → Progress → EventResult Descriptor
 descriptor_made w o fs m p = unless (room_for m) (named_descriptor w (descriptor_with o fs m.numbers)) (record p { symbols = m.symbols })
 
-abbrev pub names_then : World → List Package → WrittenObject → List ShapedField → Progress → Answer Descriptor
+abbrev pub names_then : World → List Package → WrittenObject → List ShapedField → Progress → EventResult Descriptor
 names_then w packages o fs p =
     descriptor_made w o fs (names_made packages o.renaming (object_makings p.symbols (symbol_or_nil o.name) fs) p.symbols) p
 
-abbrev pub written_then : World → List Package → WrittenObject → Progress → Answer Descriptor
+abbrev pub written_then : World → List Package → WrittenObject → Progress → EventResult Descriptor
 written_then w packages o p =
     unless (option_or (bad_name p.symbols (names_tested o)) (option_or (first_given (bad_type w) o.fields) (first_given (bad_initial w) o.fields)))
     (names_then w packages o (shaped_fields w o.fields)) p
 
 -- the descriptor of what stands behind the head `DEFSTOBJ`
-unfoldable pub descriptor_read : World → List Package → Object ℕ → Progress → Answer Descriptor
+unfoldable pub descriptor_read : World → List Package → Object ℕ → Progress → EventResult Descriptor
 descriptor_read w packages d p = needing (written_object w p.symbols d) (Expand (BadShape defstobj_word)) (written_then w packages) p

@@ -1,4 +1,5 @@
--- The obligations of an abstract object: names and forms, in the order in which they are printed.
+-- The obligations of an abstract object (ACL2's manual, topic DEFABSSTOBJ): what each claims and its printed form, in the order
+-- in which they are printed.
 use Rattle.std.specs.Prelude.{ℕ, ◌+◌, List, [], ◌∷◌, ◌++◌, map, length, pos, Bool, true, false, not, ◌&&◌, Option, Some, None, nat_eq, nat_le, codes, if◌then◌else◌}
 use Rattle.std.specs.Option.{option_or}
 use Rattle.std.specs.List.{zip, find, list_any}
@@ -8,10 +9,10 @@ use Rattle.model_symbols.specs.Opening.{quote, truth}
 use Rattle.model_lists.specs.Types.{and_word}
 use Rattle.model_terms.specs.Cores.{Core, Cores, none, more, Var, Const, If, Let, Mv, MvLet, StobjLet, WithLocal, MustBeEqual, Call, cores}
 use Rattle.model_terms.specs.Worlds.{World, Out, Ordinary, Stobj, Signature, Function, AbstractFunction, AbstractDescriptor, GeneratedFunction, Definition, Defined, Generated, definition}
-use Rattle.model_terms.specs.Nested.{is_object}
+use Rattle.model_terms.specs.Nested.{is_stobj}
 use Rattle.model_expansion.specs.Words.{if_word, let_word, mv_word, mv_let_word, stobj_let_word, with_local_word, must_be_equal_word, implies_word, equal_word, nth_word}
 use Rattle.model_expansion.specs.Forms.{list, name_of}
-use Rattle.model_expansion.specs.TypeTerms.{true_core}
+use Rattle.model_expansion.specs.TypeTerms.{true_core, false_core}
 use Rattle.model_expansion.specs.Faults.{Refusal, TooLarge}
 use Rattle.model_stobjs.specs.Guards.{renamed_core, generated_guard}
 use Rattle.model_stobjs.specs.Abstracts.{signature, formals, with_object_named, export_formals, logic_guard}
@@ -58,62 +59,106 @@ abbrev pub is_true_core : Core → Bool
 is_true_core (Const (Symbol s)) = nat_eq s truth
 is_true_core f = false
 
--- also that a guard holds, where it asks anything
-abbrev pub and_guard : Object ℕ → Core → Object ℕ
-and_guard h g = if is_true_core g then h else call and_word (h ∷ core_object g ∷ [])
-
 abbrev pub implies : Object ℕ → Object ℕ → Object ℕ
 implies h c = call implies_word (h ∷ c ∷ [])
 
-abbrev pub part_of : ℕ → Object ℕ → Object ℕ
-part_of k o = call nth_word (quoted (Integer (pos k)) ∷ o ∷ [])
+-- ---- core forms that all hold
 
--- ---- an obligation: whose it is, its name, and its form
+-- one form, or all of several
+abbrev pub all_object : List Core → Object ℕ
+all_object [] = call and_word []
+all_object (f ∷ []) = core_object f
+all_object (f ∷ (g ∷ fs)) = call and_word (map core_object (f ∷ (g ∷ fs)))
+
+-- the core form that the printed form expands to
+abbrev pub all_core : List Core → Core
+all_core [] = true_core
+all_core (f ∷ []) = f
+all_core (f ∷ (g ∷ fs)) = If f (all_core (g ∷ fs)) false_core
+
+-- also that a guard holds, where it asks anything
+abbrev pub and_guard : Core → Core → List Core
+and_guard h g = if is_true_core g then h ∷ [] else h ∷ g ∷ []
+
+abbrev pub call_of : ℕ → List Core → Core
+call_of f fs = Call f (cores fs)
+
+abbrev pub part_of : ℕ → Core → Core
+part_of k f = call_of nth_word (Const (Integer (pos k)) ∷ f ∷ [])
+
+-- ---- an obligation: whose it is, what it claims, its name, what is supposed, and what follows; all of the one, all of the other
+
+pub data Claim : Type 0 where
+  Correspondence : Claim
+  GuardTheorem : Claim
+  Preserved : Claim
+
+abbrev pub suffix_of : Claim → List ℕ
+suffix_of Correspondence = codes "{CORRESPONDENCE}"
+suffix_of GuardTheorem = codes "{GUARD-THM}"
+suffix_of Preserved = codes "{PRESERVED}"
 
 pub record Obligation : Type 0 where
   pub owner : ℕ
+  pub claim : Claim
   pub name : List ℕ
-  pub form : Object ℕ
+  pub supposed : List Core
+  pub follows : List Core
+
+abbrev pub supposing : List Core → Object ℕ → Object ℕ
+supposing [] c = c
+supposing (h ∷ hs) c = implies (all_object (h ∷ hs)) c
+
+-- the form that is printed
+abbrev pub obligation_form : Obligation → Object ℕ
+obligation_form o = supposing o.supposed (all_object o.follows)
 
 module _ (w : World) (symbols : List QualifiedName) (d : AbstractDescriptor) where
-  abbrev pub obligation : ℕ → List ℕ → Object ℕ → Obligation
-  obligation owner suffix form = record { owner = owner; name = name_of symbols owner ++ suffix; form = form }
+  abbrev pub obligation : ℕ → Claim → List Core → List Core → Obligation
+  obligation owner claim supposed follows = record {
+    owner = owner;
+    claim = claim;
+    name = name_of symbols owner ++ suffix_of claim;
+    supposed = supposed;
+    follows = follows;
+  }
 
-  abbrev pub corresponds : Object ℕ → Object ℕ → Object ℕ
-  corresponds c a = call d.corr (c ∷ a ∷ [])
+  abbrev pub corresponds : Core → Core → Core
+  corresponds c a = call_of d.corr (c ∷ a ∷ [])
 
-  abbrev pub is_well_formed : Object ℕ → Object ℕ
-  is_well_formed a = call d.recognizer.logic (a ∷ [])
+  abbrev pub is_well_formed : Core → Core
+  is_well_formed a = call_of d.recognizer.logic (a ∷ [])
 
-  abbrev pub st : Object ℕ
-  st = Symbol d.name
+  abbrev pub st : Core
+  st = Var d.name
 
   -- the logic formals with the foundation's name where the object stands
   abbrev pub exec_actuals : AbstractFunction → List ℕ
   exec_actuals f = with_object_named w d.foundation (signature w f.exec).ins (formals w f.logic)
 
-  abbrev pub logic_call : AbstractFunction → Object ℕ
-  logic_call f = call f.logic (map (λ x. Symbol x) (export_formals w d f))
+  abbrev pub logic_call : AbstractFunction → Core
+  logic_call f = call_of f.logic (map Var (export_formals w d f))
 
-  abbrev pub exec_call : AbstractFunction → Object ℕ
-  exec_call f = call f.exec (map (λ x. Symbol x) (exec_actuals f))
+  abbrev pub exec_call : AbstractFunction → Core
+  exec_call f = call_of f.exec (map Var (exec_actuals f))
 
   -- the lists correspond, and the logic guard holds
-  abbrev pub hypothesis : AbstractFunction → Object ℕ
-  hypothesis f = and_guard (corresponds (Symbol d.foundation) st) (logic_guard w d f)
+  abbrev pub hypothesis : AbstractFunction → List Core
+  hypothesis f = and_guard (corresponds (Var d.foundation) st) (logic_guard w d f)
 
-  abbrev pub output_equation : Out → Object ℕ → Object ℕ → Object ℕ
-  output_equation Ordinary a c = call equal_word (a ∷ c ∷ [])
+  abbrev pub output_equation : Out → Core → Core → Core
+  output_equation Ordinary a c = call_of equal_word (a ∷ c ∷ [])
   output_equation (Stobj x) a c = corresponds c a
 
-  abbrev pub output_equations : ℕ → List Out → Object ℕ → Object ℕ → List (Object ℕ)
+  abbrev pub output_equations : ℕ → List Out → Core → Core → List Core
   output_equations k [] a c = []
   output_equations k (o ∷ os) a c = output_equation o (part_of k a) (part_of k c) ∷ output_equations (k + 1) os a c
 
   -- one output, or all of several
-  abbrev pub outputs_correspond : List Out → Object ℕ → Object ℕ → Object ℕ
-  outputs_correspond (o ∷ []) a c = output_equation o a c
-  outputs_correspond os a c = call and_word (output_equations 0 os a c)
+  abbrev pub outputs_correspond : List Out → Core → Core → List Core
+  outputs_correspond [] a c = []
+  outputs_correspond (o ∷ []) a c = output_equation o a c ∷ []
+  outputs_correspond (o ∷ (q ∷ os)) a c = output_equations 0 (o ∷ (q ∷ os)) a c
 
   -- the exec function's guard, over the logic formals and the foundation
   abbrev pub exec_guard_of : AbstractFunction → Option Definition → Core
@@ -122,23 +167,22 @@ module _ (w : World) (symbols : List QualifiedName) (d : AbstractDescriptor) whe
   exec_guard_of f e = true_core
 
   abbrev pub guard_obligation : AbstractFunction → Core → List Obligation
-  guard_obligation f e = if is_true_core e then [] else obligation f.name (codes "{GUARD-THM}") (implies (hypothesis f) (core_object e)) ∷ []
+  guard_obligation f e = if is_true_core e then [] else obligation f.name GuardTheorem (hypothesis f) (e ∷ []) ∷ []
 
   -- the value is a list of the object, from the place where it stands among the outputs
-  abbrev pub preserved_from : ℕ → Bool → List Out → Object ℕ → List (Object ℕ)
+  abbrev pub preserved_from : ℕ → Bool → List Out → Core → List Core
   preserved_from k alone [] a = []
   preserved_from k alone (Ordinary ∷ os) a = preserved_from (k + 1) alone os a
   preserved_from k alone (Stobj x ∷ os) a = is_well_formed (if alone then a else part_of k a) ∷ []
 
-  abbrev pub preserved_obligation : AbstractFunction → List (Object ℕ) → List Obligation
+  abbrev pub preserved_obligation : AbstractFunction → List Core → List Obligation
   preserved_obligation f [] = []
-  preserved_obligation f (c ∷ cs) =
-      obligation f.name (codes "{PRESERVED}") (implies (and_guard (is_well_formed st) (logic_guard w d f)) c) ∷ []
+  preserved_obligation f (c ∷ cs) = obligation f.name Preserved (and_guard (is_well_formed st) (logic_guard w d f)) (c ∷ []) ∷ []
 
   abbrev pub export_obligations : AbstractFunction → List Obligation
   export_obligations f =
       let outs = (signature w f.exec).outs in
-      obligation f.name (codes "{CORRESPONDENCE}") (implies (hypothesis f) (outputs_correspond outs (logic_call f) (exec_call f)))
+      obligation f.name Correspondence (hypothesis f) (outputs_correspond outs (logic_call f) (exec_call f))
       ∷ (guard_obligation f (exec_guard_of f (definition w f.exec))
       ++ preserved_obligation f (preserved_from 0 (nat_eq (length outs) 1) outs (logic_call f)))
 
@@ -148,8 +192,8 @@ module _ (w : World) (symbols : List QualifiedName) (d : AbstractDescriptor) whe
 
   abbrev pub creator_obligations : List Obligation
   creator_obligations =
-      obligation d.creator.name (codes "{CORRESPONDENCE}") (corresponds (call d.creator.exec []) (call d.creator.logic []))
-      ∷ obligation d.creator.name (codes "{PRESERVED}") (is_well_formed (call d.creator.logic [])) ∷ []
+      obligation d.creator.name Correspondence [] (corresponds (call_of d.creator.exec []) (call_of d.creator.logic []) ∷ [])
+      ∷ obligation d.creator.name Preserved [] (is_well_formed (call_of d.creator.logic []) ∷ []) ∷ []
 
   -- all in order
   unfoldable pub obligations : List Obligation
@@ -158,4 +202,4 @@ module _ (w : World) (symbols : List QualifiedName) (d : AbstractDescriptor) whe
 -- the first that is too heavy
 abbrev pub too_large : List Obligation → Option Refusal
 too_large [] = None
-too_large (o ∷ os) = if nat_le (weight o.form) max_weight then too_large os else Some (TooLarge o.owner)
+too_large (o ∷ os) = if nat_le (weight (obligation_form o)) max_weight then too_large os else Some (TooLarge o.owner)

@@ -1,3 +1,4 @@
 pub mod Positions
 pub mod NameLemmas
 pub mod TableLemmas
+pub mod LawLemmas

@@ -31,10 +31,10 @@ congruent w a b = same_class (class_of w a) (class_of w b)
 -- ---- instances
 
 -- the objects among some kinds
-abbrev pub objects : List Out → List ℕ
-objects [] = []
-objects (Ordinary ∷ os) = objects os
-objects (Stobj x ∷ os) = x ∷ objects os
+abbrev pub stobjs : List Out → List ℕ
+stobjs [] = []
+stobjs (Ordinary ∷ os) = stobjs os
+stobjs (Stobj x ∷ os) = x ∷ stobjs os
 
 abbrev pub has : List ℕ → ℕ → Bool
 has xs x = list_any (nat_eq x) xs
@@ -65,4 +65,4 @@ renamed pairs s = record { ins = map (renamed_out pairs) s.ins; outs = map (rena
 -- a signature with each object formal renamed to its actual
 abbrev pub instance_of : World → Signature → List ℕ → Option Signature
 instance_of w s actuals =
-    if all_congruent w (objects s.ins) actuals && not (repeats actuals) then Some (renamed (zip (objects s.ins) actuals) s) else None
+    if all_congruent w (stobjs s.ins) actuals && not (repeats actuals) then Some (renamed (zip (stobjs s.ins) actuals) s) else None

@@ -1,5 +1,5 @@
 -- The first fault: the first place in preorder at which a rule fails, and the smallest rule that fails there.
-use Rattle.std.specs.Prelude.{ℕ, ◌+◌, List, [], ◌∷◌, ◌++◌, map, Bool, ◌||◌, ◌&&◌, not, Option, Some, None, option_map, option_to_list, if◌then◌else◌}
+use Rattle.std.specs.Prelude.{ℕ, ◌+◌, List, [], ◌∷◌, ◌++◌, map, Bool, ◌||◌, ◌&&◌, not, Option, Some, None, option_map, option_to_list, unwrap_or, if◌then◌else◌}
 use Rattle.std.specs.Option.{option_or, option_map_or}
 use Rattle.std.specs.List.{list_any, flat_map, find}
 use Rattle.model_terms.specs.declared.rule.Rule.{Rule}
@@ -95,7 +95,7 @@ optional_names fs = flat_map (λ (f : OptionalFormal). f.name ∷ option_to_list
 
 -- the formals in the order in which a body's actuals come
 abbrev pub formal_names : MacroFormals → List ℕ
-formal_names f = f.required ++ (optional_names f.optional ++ (option_to_list f.rest ++ optional_names f.keys))
+formal_names f = f.required ++ (optional_names f.optional ++ (option_to_list f.rest ++ optional_names (unwrap_or f.keys [])))
 
 -- S15: a formal is the name of an object
 abbrev pub macro_fault : World → MacroFormals → Core → Option Fault

@@ -5,16 +5,16 @@ use Rattle.std.specs.List.{list_any, list_all}
 use Rattle.model_objects.specs.Object.{Integer}
 use Rattle.model_terms.specs.Cores.{Core, Cores, none, more, Var, Const, Reached, reached}
 use Rattle.model_terms.specs.Worlds.{World, Out, Ordinary, Stobj, Scope}
-use Rattle.model_terms.specs.Classes.{is_object_name, congruent, has, repeats, objects}
+use Rattle.model_terms.specs.Classes.{is_object_name, congruent, has, repeats, stobjs}
 use Rattle.model_terms.specs.Scopes.{kind_in, kind_of, name_kinds, local_scope, other_names}
 use Rattle.model_terms.specs.Outputs.{outs}
 use Rattle.model_terms.specs.Children.{Holds, One, Many, ChildAccessor, child_accessor}
 
 -- ---- kinds
 
-abbrev pub is_object : Out → Bool
-is_object Ordinary = false
-is_object (Stobj x) = true
+abbrev pub is_stobj : Out → Bool
+is_stobj Ordinary = false
+is_stobj (Stobj x) = true
 
 abbrev pub same_kind : Out → Out → Bool
 same_kind Ordinary Ordinary = true
@@ -30,7 +30,7 @@ same_kinds (a ∷ rest) (b ∷ bs) = same_kind a b && same_kinds rest bs
 
 -- are the objects among the kinds all expected?
 abbrev pub objects_expected : List Out → List Out → Bool
-objects_expected kinds expected = list_all (has (objects expected)) (objects kinds)
+objects_expected kinds expected = list_all (has (stobjs expected)) (stobjs kinds)
 
 -- ---- the bindings of a `STOBJ-LET`
 
@@ -72,7 +72,7 @@ child_object (Many x) = x
 
 -- the variable of an object in scope, congruent to this one
 abbrev pub stands_for : World → Scope → ℕ → ℕ → Bool
-stands_for w scope x o = is_object (kind_of scope x) && congruent w o x
+stands_for w scope x o = is_stobj (kind_of scope x) && congruent w o x
 
 -- each is a child of one object in scope
 abbrev pub have_parent : World → Scope → ℕ → List BoundChild → Bool
@@ -126,7 +126,7 @@ are_vars w children (v ∷ vars) = not (repeats (v ∷ vars)) && list_all (λ x.
 
 -- where a child is put back, the parent is expected
 abbrev pub parent_expected : List ℕ → List ℕ → ℕ → List Out → Bool
-parent_expected children vars p expected = not (list_any (has children) vars) || has (objects expected) p
+parent_expected children vars p expected = not (list_any (has children) vars) || has (stobjs expected) p
 
 abbrev pub children_hold : World → Scope → List Out → List ℕ → List ℕ → ℕ → List BoundChild → Bool
 children_hold w scope expected names vars p bs =

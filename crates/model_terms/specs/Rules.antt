@@ -8,12 +8,12 @@ use Rattle.model_terms.specs.declared.rule.Mode.{Mode}
 use Rattle.model_terms.specs.declared.rule.Mode.TheVariants.{Executable, Logic, Macro}
 use Rattle.model_terms.specs.Cores.{Core, Cores, none, more, Var, Const, If, Let, Mv, MvLet, StobjLet, WithLocal, MustBeEqual, Call, variable, count}
 use Rattle.model_terms.specs.Worlds.{World, Out, Ordinary, Stobj, Scope, definition}
-use Rattle.model_terms.specs.Classes.{is_object_name, repeats, objects}
+use Rattle.model_terms.specs.Classes.{is_object_name, repeats, stobjs}
 use Rattle.model_terms.specs.Scopes.{in_scope, kind_of, name_kinds}
 use Rattle.model_terms.specs.Outputs.{outs, object_actuals}
 use Rattle.model_terms.specs.Sites.{Site, one_ordinary, first_kind, other_kinds, ins_of}
 use Rattle.model_terms.specs.Children.{is_internal, runs}
-use Rattle.model_terms.specs.Nested.{is_object, same_kinds, objects_expected, stands_for, stobj_let_holds, with_local_holds}
+use Rattle.model_terms.specs.Nested.{is_stobj, same_kinds, objects_expected, stands_for, stobj_let_holds, with_local_holds}
 
 -- an actual in the position of an object is not the variable of one in scope that is congruent to it
 abbrev pub s1_fails : World → Scope → Option ℕ → Core → Bool
@@ -27,7 +27,7 @@ s2_fails w f = false
 
 -- the variable of an object in scope stands where one ordinary output is expected
 abbrev pub is_misplaced : Scope → List Out → ℕ → Bool
-is_misplaced scope expected x = is_object (kind_of scope x) && same_kinds expected one_ordinary
+is_misplaced scope expected x = is_stobj (kind_of scope x) && same_kinds expected one_ordinary
 
 abbrev pub s3_fails : Scope → List Out → Core → Bool
 s3_fails scope expected (Var x) = is_misplaced scope expected x
@@ -80,7 +80,7 @@ any_wrong_part kinds none = false
 any_wrong_part kinds (more f parts) = is_wrong_part (first_kind kinds) f || any_wrong_part (other_kinds kinds) parts
 
 abbrev pub mv_fails : List Out → Cores → Bool
-mv_fails expected parts = not (nat_eq (count parts) (length expected)) || (any_wrong_part expected parts || repeats (objects expected))
+mv_fails expected parts = not (nat_eq (count parts) (length expected)) || (any_wrong_part expected parts || repeats (stobjs expected))
 
 -- an `MV` does not give the expected outputs, each object once; the bound form of an `MV-LET` does not give what the names say
 abbrev pub s9_fails : World → Scope → List Out → Core → Bool

@@ -75,7 +75,7 @@ pub record MacroFormals : Type 0 where
   pub required : List ℕ
   pub optional : List OptionalFormal
   pub rest : Option ℕ
-  pub keys : List OptionalFormal
+  pub keys : Option (List OptionalFormal)  -- where `&key` is among them, also with no formal behind it
 
 pub record Function : Type 0 where
   pub name : ℕ

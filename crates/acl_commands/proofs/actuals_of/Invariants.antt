@@ -1,5 +1,5 @@
 use Rattle.std.proofs.Common.{◌≡◌, ◌++◌, map, drop}
-use Rattle.model_output.specs.Commands.{actual_of}
+use Rattle.model_output_so_far.specs.Commands.{actual_of}
 use Rattle.acl_forms.specs.Forms.{forms_at, AreWhole}
 use Rattle.acl_commands.specs.Views.{actual_views}
 use Rattle.acl_commands.specs.Whole.{AreWholeActuals}

@@ -1,10 +1,10 @@
 use Rattle.std.specs.Prelude.{Option}
 use Rattle.std.specs.Option.{option_map}
 use Rattle.std.proofs.Common.{sym, ap, subst, rules}
-use Rattle.model_output.specs.Sessions as model
+use Rattle.model_output_so_far.specs.Sessions as model
 use Rattle.acl_answers.specs.declared.stobj.Stobj.{Stobj}
 use Rattle.acl_answers.specs.Making.{IsFull}
-use Rattle.model_output.specs.Events as events
+use Rattle.model_output_so_far.specs.Events as events
 use Rattle.acl_forms.specs.Growth.{symbol_later}
 use Rattle.acl_commands.specs.Views.{field_views}
 use Rattle.acl_answers.specs.Views.{name_of, names_of, session_in, session_view, stobj_view}

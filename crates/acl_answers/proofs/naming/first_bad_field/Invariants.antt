@@ -1,5 +1,5 @@
 use Rattle.std.proofs.Common.{◌≡◌, drop}
-use Rattle.model_output.specs.Events.{first_bad, names_of}
+use Rattle.model_output_so_far.specs.Events.{first_bad, names_of}
 use Rattle.acl_commands.specs.Views.{field_views}
 use Rattle.acl_answers.proofs.naming.first_bad_field.Given as goal
 

@@ -3,7 +3,7 @@ use Rattle.std.proofs.Common.{arith, sym, ap, ◌∙◌, subst, get_or}
 use Rattle.std.proofs.lemmas.List.{length-set}
 use Rattle.acl_base.specs.declared.SymId.{SymId}
 use Rattle.std.specs.Option.{option_map}
-use Rattle.model_output.specs.Reserved.{is_reserved}
+use Rattle.model_output_so_far.specs.Reserved.{is_reserved}
 use Rattle.acl_answers.specs.Views.{name_of}
 use Rattle.acl_answers.specs.Whole.{IsKnown}
 use Rattle.acl_answers.proofs.UseLemmas.{seen_more, in_use_more, name_known, known_before, other_default}

@@ -1,6 +1,6 @@
 use Rattle.std.proofs.Common.{◌≡◌, ◌≤◌, ◌<◌, ℕ, length, drop, false, get_or, IfSome}
 use Rattle.std.specs.Option.{option_map}
-use Rattle.model_output.specs.Events.{first_in_use}
+use Rattle.model_output_so_far.specs.Events.{first_in_use}
 use Rattle.acl_answers.specs.Views.{name_of, names_of}
 use Rattle.acl_answers.specs.Whole.{IsKnown}
 use Rattle.acl_answers.proofs.UseLemmas.{is_among}

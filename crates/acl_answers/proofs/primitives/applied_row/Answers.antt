@@ -4,7 +4,7 @@ use Rattle.std.proofs.Common.{sym, ap, ◌∙◌, subst}
 use Rattle.model_symbols.specs.Symbols.{Table}
 use Rattle.model_prims.specs.Applied.{applied}
 use Rattle.model_prims.specs.Rows.{prim_of}
-use Rattle.model_output.specs.Calls.{numbered, given}
+use Rattle.model_output_so_far.specs.Calls.{numbered, given}
 use Rattle.acl_heap.specs.Objects.{object_of}
 use Rattle.acl_forms.specs.Forms.{forms_at}
 use Rattle.acl_answers.specs.Views.{name_of, session_in}

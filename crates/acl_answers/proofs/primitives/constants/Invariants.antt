@@ -1,5 +1,5 @@
 use Rattle.std.proofs.Common.{◌≡◌, drop}
-use Rattle.model_output.specs.Calls.{constants}
+use Rattle.model_output_so_far.specs.Calls.{constants}
 use Rattle.acl_forms.specs.Forms.{forms_at, AreWhole}
 use Rattle.acl_commands.specs.Views.{actual_views}
 use Rattle.acl_commands.proofs.PartLemmas.{behind}

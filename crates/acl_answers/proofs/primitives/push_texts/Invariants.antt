@@ -1,5 +1,5 @@
 use Rattle.std.proofs.Common.{◌≡◌, ◌++◌, map, drop}
-use Rattle.model_output.specs.Lines.{spaced, printed}
+use Rattle.model_output_so_far.specs.Lines.{spaced, printed}
 use Rattle.acl_forms.specs.Forms.{forms_at, AreWhole}
 use Rattle.acl_answers.specs.Views.{session_in}
 use Rattle.acl_answers.proofs.primitives.push_texts.Given as goal

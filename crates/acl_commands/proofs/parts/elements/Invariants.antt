@@ -1,6 +1,6 @@
 use Rattle.std.proofs.Common.{◌≡◌}
 use Rattle.model_objects.specs.Object.{weight}
-use Rattle.model_output.specs.Commands.{elements}
+use Rattle.model_output_so_far.specs.Commands.{elements}
 use Rattle.acl_heap.specs.Objects.{object_of}
 use Rattle.acl_forms.specs.Forms.{form_at, forms_at, IsWhole, AreWhole}
 use Rattle.acl_commands.proofs.PartLemmas.{behind}

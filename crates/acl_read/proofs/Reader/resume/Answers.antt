@@ -3,7 +3,7 @@ use Rattle.std.proofs.Common.{arith, rules, sym, ap, ◌∙◌, refl}
 use Rattle.std.proofs.lemmas.List.{length-drop}
 use Rattle.model_symbols.specs.Symbols.{Package}
 use Rattle.model_text.specs.Next.{run, nothing_read}
-use Rattle.acl_scan.specs.Built.{state_at, packages_of}
+use Rattle.acl_read_scan.specs.Built.{state_at, packages_of}
 use Rattle.acl_read.proofs.ReaderLemmas.{next_resumed, next_same, run_resumed, passed_on, all_scanned, left_behind, fresh_fits}
 use Rattle.acl_read.proofs.Reader.resume.Goals as goal
 

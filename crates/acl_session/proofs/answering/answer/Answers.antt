@@ -1,8 +1,8 @@
 use Rattle.std.specs.Prelude.{◌≤◌, ◌+◌, length}
 use Rattle.std.proofs.Common.{sym, subst, arith, rules}
 use Rattle.acl_edge.specs.Outside.{TakesPart}
-use Rattle.model_output.specs.Output.{Output, answers, no_totals, most_bytes}
-use Rattle.model_output.specs.Sessions.{first_session}
+use Rattle.model_output_so_far.specs.Output.{Output, answers, no_totals, most_bytes}
+use Rattle.model_output_so_far.specs.Sessions.{first_session}
 use Rattle.acl_session.specs.Runs.{Finishes, totals_view, end_output}
 use Rattle.acl_session.proofs.OutputLemmas.{output_short, writing_done, writing_last_cut}
 use Rattle.acl_session.proofs.answering.answer.Goals as goal

@@ -4,9 +4,9 @@ use Rattle.model_symbols.specs.Symbols.{Table}
 use Rattle.model_symbols.specs.Growth.{Extends}
 use Rattle.model_symbols.specs.Opening.{opening}
 use Rattle.model_symbols.proofs.TableLemmas.{Extends-self, Extends-then}
-use Rattle.model_output.specs.Commands.{command_of}
-use Rattle.model_output.specs.Sessions as sessions
-use Rattle.model_output.specs.Output.{answers, no_totals, ended, faulty, cause_name}
+use Rattle.model_output_so_far.specs.Commands.{command_of}
+use Rattle.model_output_so_far.specs.Sessions as sessions
+use Rattle.model_output_so_far.specs.Output.{answers, no_totals, ended, faulty, cause_name}
 use Rattle.acl_forms.specs.Forms.{form_at}
 use Rattle.acl_read.specs.Reading.{unread, offset_of, Takes}
 use Rattle.acl_answers.specs.Views.{session_view}

@@ -1,8 +1,8 @@
 use Rattle.std.proofs.Common.{◌≡◌, ◌≤◌, ◌+◌, ◌-◌, length, None, true}
 use Rattle.model_symbols.specs.Growth.{Extends}
 use Rattle.model_symbols.specs.Opening.{opening}
-use Rattle.model_output.specs.Output.{answers, no_totals}
-use Rattle.model_output.specs.Sessions.{first_session}
+use Rattle.model_output_so_far.specs.Output.{answers, no_totals}
+use Rattle.model_output_so_far.specs.Sessions.{first_session}
 use Rattle.acl_read.specs.Reading.{unread, offset_of, has_ended, fault_of, HasBuiltNothing}
 use Rattle.acl_answers.specs.Views.{session_view}
 use Rattle.acl_answers.specs.Whole.{IsSession}

@@ -1,0 +1,5 @@
+pub mod Bytes
+pub mod Same
+pub mod Making
+pub mod Places
+pub mod Pools

@@ -1,0 +1,14 @@
+//! Hash fields: from objects to objects, by keys that are equal exactly where their objects are.
+#![tactic(auto)]
+
+mod bytes;
+mod entry;
+mod field;
+mod key;
+mod places;
+#[cfg(test)]
+mod tests;
+
+pub use entry::Entry;
+pub use field::HashField;
+pub use key::Key;

@@ -1,0 +1,11 @@
+-- The second half of the conditions on `WITH-LOCAL-STOBJ`: those of its `MV-LET`.
+use Rattle.std.specs.Prelude.{ℕ, List, Bool, ◌&&◌}
+use Rattle.model_terms.specs.Cores.{Core}
+use Rattle.model_terms.specs.Worlds.{World, Out, Scope}
+use Rattle.model_terms.specs.Scopes.{name_kinds, local_scope, other_names}
+use Rattle.model_terms.specs.Outputs.{outs}
+use Rattle.model_terms.specs.Nested.{objects_expected, same_kinds}
+
+abbrev pub names_hold : World → Scope → List Out → ℕ → List ℕ → Core → Bool
+names_hold w scope expected object names producer =
+    objects_expected (name_kinds w (other_names object names)) expected && same_kinds (outs w (local_scope w scope object) producer) (name_kinds w names)

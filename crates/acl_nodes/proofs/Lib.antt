@@ -1,0 +1,9 @@
+pub mod ClearLemmas
+pub mod NodeLemmas
+pub mod FieldLemmas
+pub mod CutLemmas
+pub mod ExtendLemmas
+pub mod PushLemmas
+pub mod MakingLemmas
+pub mod SeenLemmas
+pub mod NoteLemmas

@@ -1,0 +1,348 @@
+-- Notes, and what is put back.
+use Rattle.std.proofs.Common.{◌≡◌, ℕ, zero, suc, ◌<◌, ◌≤◌, ℤ, pos, List, [], ◌∷◌, ◌++◌, map, length, reverse, take, Option, Some, None, refl, sym, ap, ◌∙◌, subst, arith, inl, inr, set, get_or}
+use Rattle.std.specs.Prelude.{◌≢◌, ◌⊎◌, slice_get, option_map, IsSomeAnd, IfSome}
+use Rattle.std.proofs.lemmas.List.{length-map, append-nil, reverse-append}
+use Rattle.model_lists.specs.Lists.{StobjList}
+use Rattle.model_eval.specs.PlacesKeeping.{Place, Nowhere, At, below, list_at, with_list_at}
+use Rattle.model_places.specs.Places.{IsPlace}
+use Rattle.acl_nodes.specs.Kept.{Kept, place_at, IsRooted}
+use Rattle.acl_nodes.specs.Nodes.{Part, Own, Child, Children, part_at, with_part, IsOwn}
+use Rattle.acl_nodes.specs.Notes as notes
+use Rattle.acl_nodes.specs.Notes.{Note, Among, IsCovered, place_noted}
+use Rattle.acl_nodes.proofs.NodeLemmas.{nat_or, part_within, with_changed, with_same, with_other}
+use Rattle.acl_nodes.proofs.ClearLemmas.{below_both}
+use Rattle.acl_nodes.proofs.FieldLemmas.{part_written}
+use Rattle.acl_nodes.proofs.CutLemmas.{list_left, taken_place}
+use Rattle.acl_nodes.proofs.NoteLemmas.{note_remembered, back_remembered, write_remembered}
+use Rattle.acl_base.specs.declared.layout.Kind.{Kind}
+use Rattle.acl_store.specs.Fields.{InRange, Field, One, Many, shown, list_of, integer, IsElement, with_element}
+use Rattle.acl_store.specs.Parts.{part_of, path_in}
+use Rattle.acl_store.specs.Calls.{Nodes, Holds, place_in, IsInline, IsPut}
+use Rattle.acl_store.specs.Journals.{back, path_noted, own_list, list_noted, note_of, SuitsPart, Suits, put_part, put_back, Fit, IsNote, Remembers, MayBeWritten, Begins, NoteRemembers, StepsBack, Restores, WriteRemembers}
+use Rattle.acl_store.specs.declared.notes.Old.{Old}
+use Rattle.acl_store.specs.declared.notes.OldPart.{OldPart}
+use Rattle.acl_store.specs.declared.notes.OldPart.TheVariants.{Element, Whole}
+use Rattle.acl_store.proofs.StoreLemmas.{read_part, write_part}
+
+none_some : {X : Type 0} {x : X} → None ≡ Some x → ⊥
+none_some e = cc
+
+some_same : {X : Type 0} {x y : X} → Some x ≡ Some y → x ≡ y
+some_same e = cc
+
+-- ---- the same part again
+
+set_got : {X : Type 0} (xs : List X) (i : ℕ) (x : X) → slice_get xs i ≡ Some x → set xs i x ≡ xs
+set_got [] i x e = refl
+set_got (y ∷ xs) zero x e = ap (λ (z : _). z ∷ xs) (sym (some_same e))
+set_got (y ∷ xs) (suc i) x e = ap (λ (zs : List _). y ∷ zs) (set_got xs i x e)
+
+with_again : (ns : Nodes) (k f : ℕ) (p : Part Field) → part_at ns k f ≡ Some p → with_part k f p ns ≡ ns
+with_again [] k f p e = refl
+with_again (n ∷ ns) zero f p e = ap (λ (ps : List (Part Field)). record n { parts = ps } ∷ ns) (set_got n.parts f p e)
+with_again (n ∷ ns) (suc k) f p e = ap (λ (ms : Nodes). n ∷ ms) (with_again ns k f p e)
+
+-- ---- a note
+
+pub set_same : (vs : List ℤ) (i : ℕ) (v : ℤ) → v ≡ get_or vs i (pos 0) → i < length vs → set vs i v ≡ vs
+set_same [] i v e h = refl
+set_same (x ∷ vs) zero v e h = ap (λ (z : ℤ). z ∷ vs) e
+set_same (x ∷ vs) (suc i) v e h = let fewer : i < length vs = omega (arith, h) in ap (λ (zs : List ℤ). x ∷ zs) (set_same vs i v e fewer)
+
+put_is : (ns : Nodes) (o : Old) (p : Part Field) → part_at ns o.node o.field ≡ Some p → put_back o ns ≡ with_part o.node o.field (back o.part p) ns
+put_is ns o p e = ap (λ (r : Option (Part Field)). put_part r o ns) e
+
+pub note_keeps : (ns : Nodes) (olds : List Old) (first i : ℕ) (o : Old) (p : Part Field) → part_at ns o.node o.field ≡ Some p → IsElement p i → IsNote o.part p i → o.node < first → NoteRemembers ns olds first (o ∷ olds)
+unfolding NoteRemembers
+note_keeps ns olds first i o p at is n w kept before r = record {
+  holds = r.holds;
+  fit = (
+    subst (λ (q : Option (Part Field)). IsSomeAnd q (SuitsPart o.part)) (sym at) n.suits,
+    subst (λ (ms : Nodes). Fit ms olds) (sym (put_is ns o p at ∙ (ap (λ (q : Part Field). with_part o.node o.field q ns) n.same ∙ with_again ns o.node o.field p at))) r.fit,
+  );
+  notes = note_remembered (map note_of olds) first (length ns) kept before (note_of o) r.notes
+      (ap (λ (path : List ℕ). list_at kept.roots (below (place_at kept.places o.node) path)) (n.path o.field) ∙ (read_part ns kept r.holds o.node o.field i p at is ∙ sym n.list)) w;
+}
+
+-- ---- putting back
+
+-- the whole field
+whole_holds : (ns : Nodes) (kept : Kept) (h : Holds ns kept) (k f : ℕ) (p q : Part Field) → part_at ns k f ≡ Some p → IsOwn p → IsOwn q
+    → Holds (with_part k f q ns) (record kept { roots = with_list_at (below (place_at kept.places k) (f ∷ [])) (own_list q) kept.roots })
+whole_holds ns kept h k f (Own o) (Own n) at a b = part_written shown ns (with_part k f (Own n) ns) kept h k f [] o n (list_of n) at (λ l e. refl) (with_changed ns k f (Own o) (Own n) at)
+whole_holds ns kept h k f (Own o) (Child c) at a b = absurd b
+whole_holds ns kept h k f (Own o) (Children cs) at a b = absurd b
+whole_holds ns kept h k f (Child c) q at a b = absurd a
+whole_holds ns kept h k f (Children cs) q at a b = absurd a
+
+back_holds : (ns : Nodes) (kept : Kept) (h : Holds ns kept) (k f : ℕ) (q : OldPart) (p : Part Field) → part_at ns k f ≡ Some p → SuitsPart q p
+    → Holds (with_part k f (back q p) ns) (record kept { roots = with_list_at (below (place_at kept.places k) (path_noted q f)) (list_noted q) kept.roots })
+back_holds ns kept h k f (Element i v) (Own (One w)) at s = absurd s.0
+back_holds ns kept h k f (Element i v) (Own (Many kind x vs)) at s = write_part ns kept h k f i v (Own (Many kind x vs)) at s.1
+back_holds ns kept h k f (Element i v) (Child c) at s = absurd s.0
+back_holds ns kept h k f (Element i v) (Children cs) at s = absurd s.0
+back_holds ns kept h k f (Whole s) p at t = whole_holds ns kept h k f p (part_of s) at t.0 t.1
+
+pub step_back : (ns : Nodes) (o : Old) (os : List Old) → Suits ns o → StepsBack ns (o ∷ os) (put_back o ns) os
+step_back ns o os u = by (part_at ns o.node o.field) refl u
+  where
+    by : (r : Option (Part Field)) → part_at ns o.node o.field ≡ r → IsSomeAnd r (SuitsPart o.part) → StepsBack ns (o ∷ os) (put_back o ns) os
+    by None at s = absurd s
+    by (Some p) at s = record {
+      fits = λ f. f.1;
+      remembers = λ first kept before r. (
+        with_list_at (place_noted kept.places (note_of o)) (list_noted o.part) kept.roots,
+        record {
+          holds = subst (λ (ms : Nodes). Holds ms (record kept { roots = with_list_at (place_noted kept.places (note_of o)) (list_noted o.part) kept.roots })) (sym (put_is ns o p at)) (back_holds ns kept r.holds o.node o.field o.part p at s);
+          fit = r.fit.1;
+          notes = subst (λ (n : ℕ). notes.Remembers (map note_of os) first n (record kept { roots = with_list_at (place_noted kept.places (note_of o)) (list_noted o.part) kept.roots }) before)
+              (sym (ap length (put_is ns o p at) ∙ (with_changed ns o.node o.field p (back o.part p) at).counted)) (back_remembered (map note_of os) first (length ns) kept before (note_of o) r.notes);
+        },
+      );
+    }
+
+pub steps_self : (ns : Nodes) (os : List Old) → StepsBack ns os ns os
+steps_self ns os = record { fits = λ f. f; remembers = λ first kept before r. (kept.roots, r) }
+
+pub steps_then : (a b c : Nodes) (xs ys zs : List Old) → StepsBack a xs b ys → StepsBack b ys c zs → StepsBack a xs c zs
+steps_then a b c xs ys zs s t = record {
+  fits = λ f. t.fits (s.fits f);
+  remembers = λ first kept before r. let u = s.remembers first kept before r in t.remembers first (record kept { roots = u.0 }) before u.1;
+}
+
+take_all : {X : Type 0} (xs : List X) → take (length xs) xs ≡ xs
+take_all [] = refl
+take_all (x ∷ xs) = ap (λ (ys : List _). x ∷ ys) (take_all xs)
+
+list_within : (r : ℕ) (a b : List (StobjList ℕ)) (p : Place) → IsRooted r p → take r a ≡ take r b → list_at a p ≡ list_at b p
+list_within r a b p h e = sym (list_left a r p h) ∙ (ap (λ (ls : List (StobjList ℕ)). list_at ls p) e ∙ list_left b r p h)
+
+pub restores : (first : ℕ) (ns after : Nodes) (olds others : List Old) → others ≡ [] → StepsBack ns olds after others → Restores ns olds first after
+unfolding Restores
+restores first ns after olds others e steps kept before r =
+    let s = steps.remembers first kept before r in
+    let first_roots : take (length before.roots) s.0 ≡ before.roots = ap (λ (os : List Old). take (length before.roots) (notes.undone kept.places (map note_of os) s.0)) (sym e) ∙ s.1.notes.roots in (
+      s.0,
+      s.1.holds,
+      first_roots,
+      λ k w.
+          list_within (length before.roots) s.0 before.roots (place_at kept.places k) (r.notes.old k w) (first_roots ∙ sym (take_all before.roots))
+          ∙ ap (list_at before.roots) (sym (taken_place kept.places first k w) ∙ ap (λ (ps : List Place). place_at ps k) r.notes.places),
+    )
+
+place_rooted : (roots : List (StobjList ℕ)) (p : Place) → IsPlace roots p → IsRooted (length roots) p
+place_rooted roots Nowhere h = absurd h
+place_rooted roots (At r p) h = h.0
+
+pub begins : (ns : Nodes) (olds : List Old) (first : ℕ) → olds ≡ [] → first ≡ length ns → Begins ns olds first
+unfolding Begins
+begins ns olds first e g kept h = subst (λ (os : List Old). Remembers ns os first kept kept) (sym e) (record {
+  holds = h;
+  fit = tt;
+  notes = record {
+    counted = g ∙ sym h.counted;
+    places = ap (λ (m : ℕ). take m kept.places) (g ∙ sym h.counted) ∙ take_all kept.places;
+    roots = take_all kept.roots;
+    early = λ n a. absurd a;
+    old = λ k w. let low : k < length ns = omega (arith, w, g) in place_rooted kept.roots (place_at kept.places k) (h.there k low);
+    local = λ k w u. absurd (omega (arith, w, u, g));
+  };
+})
+
+-- ---- forms
+
+-- a part with zeros for its integers
+abbrev form : Part Field → Part Field
+form (Own (One v)) = Own (One (pos 0))
+form (Own (Many kind x vs)) = Own (Many kind x (map (λ v. pos 0) vs))
+form (Child c) = Child c
+form (Children cs) = Children cs
+
+to_form : (q : OldPart) (p : Part Field) → SuitsPart q p → SuitsPart q (form p)
+to_form (Element i v) (Own (One w)) s = absurd s.0
+to_form (Element i v) (Own (Many kind x vs)) s = (s.0, subst (λ (n : ℕ). i < n) (sym (length-map vs (λ v. pos 0))) s.1, s.2)
+to_form (Element i v) (Child c) s = s
+to_form (Element i v) (Children cs) s = s
+to_form (Whole t) (Own (One w)) s = s
+to_form (Whole t) (Own (Many kind x vs)) s = s
+to_form (Whole t) (Child c) s = s
+to_form (Whole t) (Children cs) s = s
+
+from_form : (q : OldPart) (p : Part Field) → SuitsPart q (form p) → SuitsPart q p
+from_form (Element i v) (Own (One w)) s = absurd s.0
+from_form (Element i v) (Own (Many kind x vs)) s = (s.0, subst (λ (n : ℕ). i < n) (length-map vs (λ v. pos 0)) s.1, s.2)
+from_form (Element i v) (Child c) s = s
+from_form (Element i v) (Children cs) s = s
+from_form (Whole t) (Own (One w)) s = s
+from_form (Whole t) (Own (Many kind x vs)) s = s
+from_form (Whole t) (Child c) s = s
+from_form (Whole t) (Children cs) s = s
+
+zeros_set : (vs : List ℤ) (i : ℕ) (v : ℤ) → map (λ w. pos 0) (set vs i v) ≡ map (λ w. pos 0) vs
+zeros_set [] i v = refl
+zeros_set (x ∷ vs) zero v = refl
+zeros_set (x ∷ vs) (suc i) v = ap (λ (ws : List ℤ). pos 0 ∷ ws) (zeros_set vs i v)
+
+zeros_twice : (vs : List ℤ) → map (λ w. pos 0) (map (λ w. pos 0) vs) ≡ map (λ w. pos 0) vs
+zeros_twice [] = refl
+zeros_twice (x ∷ vs) = ap (λ (ws : List ℤ). pos 0 ∷ ws) (zeros_twice vs)
+
+element_form : (p : Part Field) (i : ℕ) (v : ℤ) → form (with_element p i v) ≡ form p
+element_form (Own (One w)) i v = refl
+element_form (Own (Many kind x vs)) i v = ap (λ (ws : List ℤ). Own (Many kind x ws)) (zeros_set vs i v)
+element_form (Child c) i v = refl
+element_form (Children cs) i v = refl
+
+form_twice : (p : Part Field) → form (form p) ≡ form p
+form_twice (Own (One w)) = refl
+form_twice (Own (Many kind x vs)) = ap (λ (ws : List ℤ). Own (Many kind x ws)) (zeros_twice vs)
+form_twice (Child c) = refl
+form_twice (Children cs) = refl
+
+back_form : (q : OldPart) (p r : Part Field) → form r ≡ form p → form (back q r) ≡ form (back q p)
+back_form (Element i v) p r e = element_form r i v ∙ (e ∙ sym (element_form p i v))
+back_form (Whole s) p r e = refl
+
+abbrev Alike : ℕ → Nodes → Nodes → Type 0
+Alike first ns after = (k f : ℕ) → k < first → option_map form (part_at after k f) ≡ option_map form (part_at ns k f)
+
+suits_alike : (q : OldPart) (r t : Option (Part Field)) → option_map form t ≡ option_map form r → IsSomeAnd r (SuitsPart q) → IsSomeAnd t (SuitsPart q)
+suits_alike q None t e s = absurd s
+suits_alike q (Some p) None e s = absurd (none_some e)
+suits_alike q (Some p) (Some u) e s = from_form q u (subst (SuitsPart q) (sym (some_same e)) (to_form q p s))
+
+put_alike : (first : ℕ) (ns after : Nodes) (n g : ℕ) (p u x y : Part Field) → part_at ns n g ≡ Some p → part_at after n g ≡ Some u → form y ≡ form x → Alike first ns after
+    → Alike first (with_part n g x ns) (with_part n g y after)
+put_alike first ns after n g p u x y at to e a k f w = by (nat_or k n) (nat_or f g)
+  where
+    other : (k ≢ n) ⊎ (f ≢ g) → option_map form (part_at (with_part n g y after) k f) ≡ option_map form (part_at (with_part n g x ns) k f)
+    other d = ap (option_map form) (with_other after n g y k f d) ∙ (a k f w ∙ sym (ap (option_map form) (with_other ns n g x k f d)))
+
+    here : option_map form (part_at (with_part n g y after) n g) ≡ option_map form (part_at (with_part n g x ns) n g)
+    here = ap (option_map form) (with_same after n g u y to) ∙ (ap Some e ∙ sym (ap (option_map form) (with_same ns n g p x at)))
+
+    by : (k ≡ n) ⊎ (k ≢ n) → (f ≡ g) ⊎ (f ≢ g) → option_map form (part_at (with_part n g y after) k f) ≡ option_map form (part_at (with_part n g x ns) k f)
+    by (inr d) b = other (inl d)
+    by (inl c) (inr d) = other (inr d)
+    by (inl c) (inl b) = subst (λ (i : ℕ). option_map form (part_at (with_part n g y after) i f) ≡ option_map form (part_at (with_part n g x ns) i f)) (sym c)
+        (subst (λ (i : ℕ). option_map form (part_at (with_part n g y after) n i) ≡ option_map form (part_at (with_part n g x ns) n i)) (sym b) here)
+
+backs_alike : (first : ℕ) (ns after : Nodes) (o : Old) → o.node < first → Suits ns o → Alike first ns after → Alike first (put_back o ns) (put_back o after)
+backs_alike first ns after o w s a = by (part_at ns o.node o.field) (part_at after o.node o.field) refl refl s (a o.node o.field w)
+  where
+    by : (r t : Option (Part Field)) → part_at ns o.node o.field ≡ r → part_at after o.node o.field ≡ t → IsSomeAnd r (SuitsPart o.part) → option_map form t ≡ option_map form r
+        → Alike first (put_part (part_at ns o.node o.field) o ns) (put_part (part_at after o.node o.field) o after)
+    by None t at to s e = absurd s
+    by (Some p) None at to s e = absurd (none_some e)
+    by (Some p) (Some u) at to s e = rw at (rw to (put_alike first ns after o.node o.field p u (back o.part p) (back o.part u) at to (back_form o.part p u (some_same e)) a))
+
+fit_alike : (first : ℕ) (os : List Old) (ns after : Nodes) → ((n : Note) → Among n (map note_of os) → n.node < first) → Alike first ns after → Fit ns os → Fit after os
+fit_alike first [] ns after w a f = tt
+fit_alike first (o ∷ os) ns after w a f = (
+  suits_alike o.part (part_at ns o.node o.field) (part_at after o.node o.field) (a o.node o.field (w (note_of o) (inl refl))) f.0,
+  fit_alike first os (put_back o ns) (put_back o after) (λ n m. w n (inr m)) (backs_alike first ns after o (w (note_of o) (inl refl)) f.0 a) f.1,
+)
+
+-- ---- a write
+
+covered : (olds : List Old) (first n count : ℕ) (path : List ℕ) (kept : Kept) → n < count → MayBeWritten olds first n path
+    → IsCovered kept.places (map note_of olds) (below (place_at kept.places n) path) ⊎ ((first ≤ n) × (n < count))
+covered olds first n count path kept w (inr l) = inr (l, w)
+covered olds first n count path kept w (inl m) = inl (record {
+  note = m.0;
+  is_there = m.1;
+  rest = m.3.0;
+  is = ap (below (place_at kept.places n)) m.3.1 ∙ (sym (below_both (place_at kept.places n) m.0.path m.3.0) ∙ ap (λ (k : ℕ). below (below (place_at kept.places k) m.0.path) m.3.0) (sym m.2));
+})
+
+write_keeps : (ns after : Nodes) (olds : List Old) (first n f i : ℕ) (v : ℤ) (p : Part Field) → part_at ns n f ≡ Some p → IsElement p i → after ≡ with_part n f (with_element p i v) ns
+    → (kept before : Kept) → Remembers ns olds first kept before → MayBeWritten olds first n (path_in p f i)
+    → Remembers after olds first (record kept { roots = with_list_at (place_in kept p n f i) (integer v) kept.roots }) before
+write_keeps ns after olds first n f i v p at is e kept before r may = subst (λ (ms : Nodes). Remembers ms olds first (record kept { roots = with_list_at (place_in kept p n f i) (integer v) kept.roots }) before) (sym e) (record {
+  holds = write_part ns kept r.holds n f i v p at is;
+  fit = fit_alike first olds ns (with_part n f (with_element p i v) ns) r.notes.early alike r.fit;
+  notes = subst (λ (m : ℕ). notes.Remembers (map note_of olds) first m (record kept { roots = with_list_at (place_in kept p n f i) (integer v) kept.roots }) before)
+      (sym (with_changed ns n f p (with_element p i v) at).counted)
+      (write_remembered (map note_of olds) first (length ns) n (path_in p f i) (integer v) kept before r.notes (covered olds first n (length ns) (path_in p f i) kept (part_within ns n f p at) may));
+})
+  where
+    alike : Alike first ns (with_part n f (with_element p i v) ns)
+    alike k g w = subst (λ (ms : Nodes). option_map form (part_at (with_part n f (with_element p i v) ns) k g) ≡ option_map form (part_at ms k g)) (with_again ns n f p at)
+        (put_alike first ns ns n f p p p (with_element p i v) at at (element_form p i v) (λ j h u. refl) k g w)
+
+pub writes_keep : (ns after : Nodes) (olds : List Old) (first n f i : ℕ) (v : ℤ) → IsInline ns n f i → IsPut ns n f i v after → WriteRemembers ns olds first n f i v after
+unfolding WriteRemembers
+writes_keep ns after olds first n f i v p q kept before r = by (part_at ns n f) refl p q
+  where
+    by : (o : Option (Part Field)) → part_at ns n f ≡ o → IsSomeAnd o (λ s. IsElement s i) → IfSome o (λ s. after ≡ with_part n f (with_element s i v) ns)
+        → IfSome o (λ s. MayBeWritten olds first n (path_in s f i) → Remembers after olds first (record kept { roots = with_list_at (place_in kept s n f i) (integer v) kept.roots }) before)
+    by None at p q = absurd p
+    by (Some s) at p q = λ may. write_keeps ns after olds first n f i v s at p q kept before r may
+
+-- ---- notes of integers
+
+pub element_note : (kind : Kind) (x v w : ℤ) (vs : List ℤ) (i : ℕ) → i < length vs → w ≡ v → v ≡ get_or vs i (pos 0) → InRange kind v → IsNote (Element i w) (Own (Many kind x vs)) i
+element_note kind x v w vs i h d e r = subst (λ (u : ℤ). IsNote (Element i u) (Own (Many kind x vs)) i) (sym d) (record {
+  suits = (tt, h, r);
+  same = ap (λ (us : List ℤ). Own (Many kind x us)) (set_same vs i v e h);
+  path = λ f. refl;
+  list = ap integer e;
+})
+
+-- ---- calls
+
+pub restores_all : (first : ℕ) (ns after : Nodes) (olds items : List Old) → items ≡ [] → StepsBack ns olds after (reverse items) → Restores ns olds first after
+restores_all first ns after olds items e s = restores first ns after olds (reverse items) (ap reverse e) s
+
+newest_is : (olds rest : List Old) (o : Old) → olds ≡ rest ++ o ∷ [] → reverse olds ≡ o ∷ reverse rest
+newest_is olds rest o e = ap reverse e ∙ reverse-append rest (o ∷ [])
+
+pub newest_fits : (ns : Nodes) (olds rest : List Old) (o : Old) → olds ≡ rest ++ o ∷ [] → Fit ns (reverse olds) → Suits ns o
+newest_fits ns olds rest o e f = (subst (Fit ns) (newest_is olds rest o e) f).0
+
+backs_is : (ns after : Nodes) (o : Old) (r : Option (Part Field)) → IsSomeAnd r (SuitsPart o.part) → IfSome r (λ p. after ≡ with_part o.node o.field (back o.part p) ns) → after ≡ put_part r o ns
+backs_is ns after o None s q = absurd s
+backs_is ns after o (Some p) s q = q
+
+pub newest_back : (ns after : Nodes) (olds rest : List Old) (o : Old) → olds ≡ rest ++ o ∷ [] → Fit ns (reverse olds)
+    → IfSome (part_at ns o.node o.field) (λ p. after ≡ with_part o.node o.field (back o.part p) ns) → StepsBack ns (reverse olds) after (reverse rest)
+newest_back ns after olds rest o e f q =
+    subst (λ (os : List Old). StepsBack ns os after (reverse rest)) (sym (newest_is olds rest o e))
+    (subst (λ (ms : Nodes). StepsBack ns (o ∷ reverse rest) ms (reverse rest)) (sym (backs_is ns after o (part_at ns o.node o.field) (newest_fits ns olds rest o e f) q))
+    (step_back ns o (reverse rest) (newest_fits ns olds rest o e f)))
+
+pub notes_self : (ns : Nodes) (olds : List Old) (first : ℕ) → NoteRemembers ns olds first olds
+unfolding NoteRemembers
+notes_self ns olds first kept before r = r
+
+pub notes_keep : (ns : Nodes) (olds news : List Old) (first n f i : ℕ) (o : Old) → news ≡ olds ++ o ∷ [] → o.node ≡ n → o.field ≡ f → IsInline ns n f i → IfSome (part_at ns n f) (λ p. IsNote o.part p i) → n < first
+    → NoteRemembers ns (reverse olds) first (reverse news)
+notes_keep ns olds news first n f i o e a b p q w =
+    subst (NoteRemembers ns (reverse olds) first) (sym (newest_is news olds o e)) (by (part_at ns o.node o.field) refl
+    (subst (λ (r : Option (Part Field)). IsSomeAnd r (λ s. IsElement s i)) (sym same) p) (subst (λ (r : Option (Part Field)). IfSome r (λ s. IsNote o.part s i)) (sym same) q))
+  where
+    same : part_at ns o.node o.field ≡ part_at ns n f
+    same = ap (λ (k : ℕ). part_at ns k o.field) a ∙ ap (part_at ns n) b
+
+    by : (r : Option (Part Field)) → part_at ns o.node o.field ≡ r → IsSomeAnd r (λ s. IsElement s i) → IfSome r (λ s. IsNote o.part s i) → NoteRemembers ns (reverse olds) first (o ∷ reverse olds)
+    by None at p q = absurd p
+    by (Some s) at p q = note_keeps ns (reverse olds) first i o s at p q (subst (λ (k : ℕ). k < first) (sym a) w)
+
+pub may_write : (ns : Nodes) (olds news : List Old) (first n f i : ℕ) (o : Old) → news ≡ olds ++ o ∷ [] → o.node ≡ n → o.field ≡ f → IsInline ns n f i → IfSome (part_at ns n f) (λ p. IsNote o.part p i)
+    → IfSome (part_at ns n f) (λ p. MayBeWritten (reverse news) first n (path_in p f i))
+may_write ns olds news first n f i o e a b p q = by (part_at ns n f) p q
+  where
+    by : (r : Option (Part Field)) → IsSomeAnd r (λ s. IsElement s i) → IfSome r (λ s. IsNote o.part s i) → IfSome r (λ s. MayBeWritten (reverse news) first n (path_in s f i))
+    by None p q = absurd p
+    by (Some s) p q = subst (λ (os : List Old). MayBeWritten os first n (path_in s f i)) (sym (newest_is news olds o e))
+        (inl (note_of o, inl refl, a, ([], sym (append-nil (path_noted o.part o.field) ∙ (ap (path_noted o.part) b ∙ q.path f)))))
+
+pub local_may : (r : Option (Part Field)) (olds : List Old) (first n f i : ℕ) → first ≤ n → IfSome r (λ p. MayBeWritten olds first n (path_in p f i))
+local_may None olds first n f i h = local_none
+  where
+    local_none : IfSome None (λ (p : Part Field). MayBeWritten olds first n (path_in p f i))
+    local_none = tt
+local_may (Some p) olds first n f i h = inr h
+
+pub begun : (ns : Nodes) (items : List Old) (first : ℕ) → items ≡ [] → first ≡ length ns → Begins ns (reverse items) first
+begun ns items first e g = begins ns (reverse items) first (ap reverse e) g

@@ -1,0 +1,6 @@
+pub mod SlotLemmas
+pub mod NodeLemmas
+pub mod MakeLemmas
+pub mod StoreLemmas
+pub mod LawLemmas
+pub mod JournalLemmas

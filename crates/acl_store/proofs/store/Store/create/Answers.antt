@@ -1,0 +1,15 @@
+use Rattle.std.proofs.Common.{rules, ◌≡◌, take, length}
+use Rattle.acl_store.proofs.StoreLemmas.{creates, new_typed, cut_back}
+use Rattle.acl_store.proofs.store.Store.create.Goals as goal
+
+pub returns-in-Ok-clause-created : goal.returns-in-Ok-clause-created
+returns-in-Ok-clause-created c = creates c.args.heap.now c.args.layouts.now c.args.id.0 _ _ c.in-Ok.n c.in-Ok.ensures.made
+
+pub returns-in-Ok-clause-typed : goal.returns-in-Ok-clause-typed
+returns-in-Ok-clause-typed c = new_typed c.args.heap.now c.args.layouts.now c.args.id.0 _ _ c.in-Ok.n c.in-Ok.ensures.made
+
+pub returns-in-Err-clause-refused : goal.returns-in-Err-clause-refused
+returns-in-Err-clause-refused c =
+    let l : c.len-before.result ≡ length c.args.self.now.nodes.items = search rules in
+    let e : c.truncate.new.self.items ≡ take c.len-before.result c.make.new.nodes.items = search rules in
+    cut_back c.args.self.now.nodes.items c.make.new.nodes.items c.truncate.new.self.items c.len-before.result l e c.in-Err.ensures.kept

@@ -1,0 +1,13 @@
+use Rattle.std.proofs.Common.{rules, ◌≡◌, ◌∙◌, ap, take}
+use Rattle.acl_store.specs.Views.{view}
+use Rattle.acl_store.proofs.StoreLemmas.{view_take, cuts, cut_typed}
+use Rattle.acl_store.proofs.store.Store.cut_to.Goals as goal
+
+pub returns-clause-nodes : goal.returns-clause-nodes
+returns-clause-nodes c = let e : c.truncate.new.self.items ≡ take c.args.m.0 c.args.self.now.nodes.items = search rules in ap view e ∙ view_take c.args.self.now.nodes.items c.args.m.0
+
+pub returns-clause-cut : goal.returns-clause-cut
+returns-clause-cut c = cuts (view c.args.self.now.nodes.items) _ c.args.m.0 c.requires (returns-clause-nodes c)
+
+pub returns-clause-typed : goal.returns-clause-typed
+returns-clause-typed c = cut_typed (view c.args.self.now.nodes.items) _ c.args.m.0 c.requires (returns-clause-nodes c)

@@ -1,0 +1,103 @@
+-- What a journal notes of fields, and what is remembered by it.
+use Rattle.std.specs.Prelude.{◌≡◌, ◌⊎◌, ℕ, ℤ, ◌<◌, ◌≤◌, List, [], ◌∷◌, ◌++◌, map, length, take, Option, Some, None, IsSomeAnd, IfSome}
+use Rattle.model_lists.specs.Lists.{StobjList, End}
+use Rattle.model_eval.specs.PlacesKeeping.{list_at, with_list_at}
+use Rattle.acl_nodes.specs.Kept.{Kept, place_at}
+use Rattle.acl_nodes.specs.Nodes.{Part, Own, Child, Children, part_at, with_part, IsOwn}
+use Rattle.acl_nodes.specs.Notes as notes
+use Rattle.acl_nodes.specs.Notes.{Note, Among}
+use Rattle.acl_store.specs.Fields.{Field, list_of, integer, IsElement, IsKept, IsSized, with_element, element}
+use Rattle.acl_store.specs.Parts.{part_of, path_in}
+use Rattle.acl_store.specs.Calls.{Nodes, Holds, place_in}
+use Rattle.acl_store.specs.declared.notes.Old.{Old}
+use Rattle.acl_store.specs.declared.notes.OldPart.{OldPart}
+use Rattle.acl_store.specs.declared.notes.OldPart.TheVariants.{Element, Whole}
+
+-- ---- one note
+
+-- the field once the note is put back
+abbrev pub back : OldPart → Part Field → Part Field
+back (Element i v) p = with_element p i v
+back (Whole s) p = part_of s
+
+abbrev pub path_noted : OldPart → ℕ → List ℕ
+path_noted (Element i v) f = f ∷ i ∷ []
+path_noted (Whole s) f = f ∷ []
+
+-- the list of a field of a node's own
+abbrev pub own_list : Part Field → StobjList ℕ
+own_list (Own o) = list_of o
+own_list (Child c) = End
+own_list (Children cs) = End
+
+abbrev pub list_noted : OldPart → StobjList ℕ
+list_noted (Element i v) = integer v
+list_noted (Whole s) = own_list (part_of s)
+
+abbrev pub note_of : Old → Note
+note_of o = record { node = o.node; path = path_noted o.part o.field; list = list_noted o.part }
+
+-- it may be put back into the field
+abbrev pub SuitsPart : OldPart → Part Field → Type 0
+SuitsPart (Element i v) p = IsSized p × IsElement p i × IsKept p v
+SuitsPart (Whole s) p = IsOwn p × IsOwn (part_of s)
+
+abbrev pub Suits : Nodes → Old → Type 0
+Suits ns o = IsSomeAnd (part_at ns o.node o.field) (SuitsPart o.part)
+
+abbrev pub put_part : Option (Part Field) → Old → Nodes → Nodes
+put_part None o ns = ns
+put_part (Some p) o ns = with_part o.node o.field (back o.part p) ns
+
+-- the nodes once it is put back
+abbrev pub put_back : Old → Nodes → Nodes
+put_back o ns = put_part (part_at ns o.node o.field) o ns
+
+-- the notes may be put back one after the other, the first of the list first, which is the newest
+abbrev pub Fit : Nodes → List Old → Type 0
+Fit ns [] = Unit {0}
+Fit ns (o ∷ os) = Suits ns o × Fit (put_back o ns) os
+
+-- it is a note of the integer of this index, as it is
+pub record IsNote (q : OldPart) (p : Part Field) (i : ℕ) : Type 0 where
+  pub suits : SuitsPart q p
+  pub same : back q p ≡ p
+  pub path : (f : ℕ) → path_noted q f ≡ path_in p f i
+  pub list : list_noted q ≡ integer (element p i)
+
+-- ---- what is remembered
+
+-- put back, the notes give the lists that there were when the journal was opened, of the nodes below this number
+pub record Remembers (ns : Nodes) (olds : List Old) (first : ℕ) (kept before : Kept) : Type 0 where
+  pub holds : Holds ns kept
+  pub fit : Fit ns olds
+  pub notes : notes.Remembers (map note_of olds) first (length ns) kept before
+
+-- the list was noted, or one that it is in, or the node is local
+abbrev pub MayBeWritten : List Old → ℕ → ℕ → List ℕ → Type 0
+MayBeWritten olds first n path = ((m : Note) × Among m (map note_of olds) × (m.node ≡ n) × ((rest : List ℕ) × (path ≡ m.path ++ rest))) ⊎ (first ≤ n)
+
+unfoldable pub Begins : Nodes → List Old → ℕ → Type 0
+Begins ns olds first = (kept : Kept) → Holds ns kept → Remembers ns olds first kept kept
+
+-- a note leaves what is remembered
+unfoldable pub NoteRemembers : Nodes → List Old → ℕ → List Old → Type 0
+NoteRemembers ns olds first others = (kept before : Kept) → Remembers ns olds first kept before → Remembers ns others first kept before
+
+-- some were put back
+pub record StepsBack (ns : Nodes) (olds : List Old) (after : Nodes) (others : List Old) : Type 0 where
+  pub fits : Fit ns olds → Fit after others
+  pub remembers : (first : ℕ) (kept before : Kept) → Remembers ns olds first kept before → (roots : List (StobjList ℕ)) × Remembers after others first (record kept { roots = roots }) before
+
+-- each node that there was stands for what it stood for
+unfoldable pub Restores : Nodes → List Old → ℕ → Nodes → Type 0
+Restores ns olds first after =
+    (kept before : Kept) → Remembers ns olds first kept before
+    → (roots : List (StobjList ℕ)) × Holds after (record kept { roots = roots }) × (take (length before.roots) roots ≡ before.roots)
+    × ((k : ℕ) → k < first → list_at roots (place_at kept.places k) ≡ list_at before.roots (place_at before.places k))
+
+-- another integer leaves what is remembered, where it was noted or the node is local
+unfoldable pub WriteRemembers : Nodes → List Old → ℕ → ℕ → ℕ → ℕ → ℤ → Nodes → Type 0
+WriteRemembers ns olds first n f i v after =
+    (kept before : Kept) → Remembers ns olds first kept before
+    → IfSome (part_at ns n f) (λ p. MayBeWritten olds first n (path_in p f i) → Remembers after olds first (record kept { roots = with_list_at (place_in kept p n f i) (integer v) kept.roots }) before)

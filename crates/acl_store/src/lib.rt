@@ -1,0 +1,12 @@
+//! Live objects by the numbers of their nodes.
+#![tactic(auto)]
+
+mod laws;
+mod making;
+mod node;
+mod notes;
+mod slot;
+mod store;
+
+pub use laws::{nodes_stand, writes_are_updates};
+pub use store::Store;

@@ -1,0 +1,148 @@
+//! Fields of nodes, as they lie in memory.
+ghost use Rattle.std.specs.Prelude.{◌≡◌, ◌-◌, ◌++◌, length, replicate, take, Some, IfOk, OnOk, OnErr};
+ghost use Rattle.acl_store.specs.Fields.{HasLength, InRange, IsElement, IsKept, IsSized, IsSmall, element, length_of, number_of, sized, with_element};
+ghost use Rattle.acl_store.specs.Parts.{HasChild, child_of, part_of};
+
+use acl_base::Word;
+use acl_rawmem::RawArray;
+use std::alloc::{AllocError, Global};
+
+/// An array, with what new elements begin as.
+#[derive(Drop)]
+pub struct Array<T: Copy> {
+    pub initial: T,
+    pub elements: RawArray<T>,
+}
+
+/// A field.
+#[derive(Drop)]
+pub enum Slot {
+    /// An integer.
+    Scalar(i64),
+    /// Integers of one byte.
+    Bytes(Array<u8>),
+    /// Integers of four bytes.
+    Ints(Array<i32>),
+    /// Integers of eight bytes.
+    Longs(Array<i64>),
+    /// An object, by the number of its node.
+    Child(usize),
+    /// An array of objects.
+    Children(Vec<usize>),
+}
+
+/// The integer of a small word.
+pub fn number(w: Word) -> i64
+    ensures { result ≡ number_of w }
+{
+    match w {
+        Word::Small(v) => v,
+        Word::Big(_) => 0,
+        Word::Sym(_) => 0,
+        Word::Str(_) => 0,
+        Word::Cons(_) => 0,
+    }
+}
+
+impl<T: Copy> Array<T> {
+    /// So many elements that begin as this.
+    pub fn filled(alloc: Global, count: usize, initial: T) -> Result<Array<T>, AllocError>
+        ensures initial { IfOk result (λ a. a.initial ≡ initial) }
+        ensures elements { IfOk result (λ a. a.elements ≡ replicate count initial) }
+    {
+        let elements = RawArray::filled(alloc, count, initial)?;
+        Ok(Array { initial, elements })
+    }
+
+    /// Cuts it, or lengthens it.
+    pub fn resize(&mut self, count: usize) -> Result<(), AllocError>
+        ensures initial { self.new.initial ≡ self.old.initial }
+        ensures elements { OnOk result (self.new.elements ≡ take count self.old.elements ++ replicate (count - length self.old.elements) self.old.initial) }
+        ensures refused { OnErr result (self.new.elements ≡ self.old.elements) }
+    {
+        match self.elements.resize(count, self.initial) {
+            Ok(()) => Ok(()),
+            Err(e) => Err(e),
+        }
+    }
+}
+
+impl Slot {
+    /// The integer of this index.
+    pub fn get(&self, index: usize) -> i64
+        requires { IsElement (part_of self.now) index }
+        ensures { result ≡ element (part_of self.now) index }
+    {
+        match self {
+            Slot::Scalar(v) => *v,
+            Slot::Bytes(a) => a.elements.get(index) as i64,
+            Slot::Ints(a) => a.elements.get(index) as i64,
+            Slot::Longs(a) => a.elements.get(index),
+            Slot::Child(_) => unreachable!(),
+            Slot::Children(_) => unreachable!(),
+        }
+    }
+
+    /// Another integer of this index.
+    pub fn put(&mut self, index: usize, value: i64)
+        requires is { IsElement (part_of self.old) index }
+        requires fits { IsKept (part_of self.old) value }
+        ensures { part_of self.new ≡ with_element (part_of self.old) index value }
+    {
+        match self {
+            Slot::Scalar(v) => *v = value,
+            Slot::Bytes(a) => a.elements.set(index, value as u8),
+            Slot::Ints(a) => a.elements.set(index, value as i32),
+            Slot::Longs(a) => a.elements.set(index, value),
+            Slot::Child(_) => unreachable!(),
+            Slot::Children(_) => unreachable!(),
+        }
+    }
+
+    /// Cuts an array, or lengthens it with what its elements begin as.
+    #[tactic(auto, using(crate::proofs::SlotLemmas::bytes_sized))]
+    pub fn stretch(&mut self, length: usize) -> Result<(), AllocError>
+        requires { IsSized (part_of self.old) }
+        ensures elements { OnOk result (part_of self.new ≡ sized (part_of self.old) length) }
+        ensures refused { OnErr result (part_of self.new ≡ part_of self.old) }
+    {
+        match self {
+            Slot::Scalar(_) => unreachable!(),
+            Slot::Bytes(a) => a.resize(length),
+            Slot::Ints(a) => a.resize(length),
+            Slot::Longs(a) => a.resize(length),
+            Slot::Child(_) => unreachable!(),
+            Slot::Children(_) => unreachable!(),
+        }
+    }
+
+    /// The number of elements or children.
+    pub fn length(&self) -> u32
+        requires { HasLength (part_of self.now) }
+        ensures { result ≡ length_of (part_of self.now) }
+    {
+        match self {
+            Slot::Scalar(_) => unreachable!(),
+            Slot::Bytes(a) => a.elements.len() as u32,
+            Slot::Ints(a) => a.elements.len() as u32,
+            Slot::Longs(a) => a.elements.len() as u32,
+            Slot::Child(_) => unreachable!(),
+            Slot::Children(cs) => cs.len() as u32,
+        }
+    }
+
+    /// The number of a child's node.
+    pub fn child(&self, index: usize) -> usize
+        requires { HasChild (part_of self.now) index }
+        ensures { child_of (part_of self.now) index ≡ Some result }
+    {
+        match self {
+            Slot::Scalar(_) => unreachable!(),
+            Slot::Bytes(_) => unreachable!(),
+            Slot::Ints(_) => unreachable!(),
+            Slot::Longs(_) => unreachable!(),
+            Slot::Child(c) => *c,
+            Slot::Children(cs) => cs[index],
+        }
+    }
+}

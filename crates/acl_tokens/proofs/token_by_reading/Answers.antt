@@ -1,5 +1,0 @@
-use Rattle.acl_tokens.proofs.ReadingLemmas.{token_is}
-use Rattle.acl_tokens.proofs.token_by_reading.Goals as goal
-
-pub returns : goal.returns
-returns c = token_is

@@ -1,0 +1,4 @@
+mod LawLemmas
+pub mod NameLemmas
+pub mod PrimitiveLemmas
+pub mod WorldLemmas

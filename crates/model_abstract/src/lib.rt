@@ -1,0 +1,2 @@
+//! Abstract evaluation: an abstract object is its abstract list, and an export its logic function; and when lists correspond. Definitions.
+#![tactic(auto)]

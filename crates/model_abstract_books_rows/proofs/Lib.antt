@@ -1,0 +1,9 @@
+pub mod RowDoubled
+pub mod RowStopping
+pub mod RowHolding
+pub mod IdentitySession
+pub mod IdentityForms
+pub mod IdentityValues
+pub mod IdentityLemmas
+pub mod AbstractLemmas
+pub mod RowIdentity

@@ -1,0 +1,4 @@
+pub mod HoldingRows
+pub mod Books
+pub mod Rows
+pub mod Identity

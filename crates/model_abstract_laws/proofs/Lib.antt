@@ -1,0 +1,5 @@
+pub mod LimitLemmas
+pub mod BudgetLemmas
+pub mod Kept
+pub mod AbstractBudgetLemmas
+pub mod AbstractCountLemmas

@@ -1,0 +1,5 @@
+pub mod AcceptLemmas
+pub mod ScopeLemmas
+pub mod KidLemmas
+pub mod KidScopes
+pub mod LawLemmas

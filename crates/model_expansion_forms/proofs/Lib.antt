@@ -1,0 +1,9 @@
+pub mod NodeLemmas
+pub mod PartLemmas
+pub mod TypeLemmas
+pub mod RowLemmas
+pub mod TableLemmas
+pub mod PlaceLemmas
+pub mod GrownLemmas
+pub mod ValueLemmas
+pub mod LawLemmas

@@ -1,0 +1,12 @@
+pub mod RowChildrenInside
+pub mod RowDepthInside
+pub mod RowExportInAConsumer
+pub mod RowExportInAnExport
+pub mod RowGuardInside
+pub mod RowLargeInside
+pub mod RowRangeInside
+pub mod RowStepsAtTheEnd
+pub mod RowStepsAtTheExecCall
+pub mod RowStepsInTheGuard
+pub mod RowStepsInside
+pub mod RowStopsInMacrosAndConstants

@@ -1,0 +1,11 @@
+pub mod Costs
+pub mod Worlds
+pub mod Follows
+pub mod Held
+pub mod Corresponding
+pub mod CostLaw
+pub mod Example
+pub mod PartLaw
+pub mod SymbolLaw
+pub mod Abstract
+pub mod AbstractLists

@@ -1,0 +1,2 @@
+//! What this repository is for, as statements over the definitions alone: begin here.
+#![tactic(auto)]

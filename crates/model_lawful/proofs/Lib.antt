@@ -1,0 +1,3 @@
+pub mod SuitLemmas
+pub mod LawfulLemmas
+pub mod CliqueLemmas

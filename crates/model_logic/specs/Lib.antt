@@ -1,0 +1,2 @@
+pub mod LogicFunctions
+pub mod Logic

@@ -1,0 +1,9 @@
+pub mod Same
+pub mod Ends
+pub mod Still
+pub mod Limits
+pub mod UnderWay
+pub mod Closing
+pub mod Steady
+pub mod Placed
+pub mod Quiet

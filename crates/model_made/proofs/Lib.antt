@@ -1,0 +1,17 @@
+pub mod WorldLemmas
+pub mod FormLemmas
+pub mod GrowthLemmas
+pub mod OpeningLemmas
+pub mod EventLemmas
+pub mod MemberLemmas
+pub mod DraftLemmas
+pub mod CandidateLemmas
+pub mod FunctionLemmas
+pub mod NestingLemmas
+pub mod DescriptorLemmas
+pub mod StobjLemmas
+pub mod GuardLemmas
+pub mod AbstractLemmas
+pub mod ExportLemmas
+pub mod CommandLemmas
+pub mod LawLemmas

@@ -1,0 +1,17 @@
+pub mod KnownLemmas
+pub mod EffectLemmas
+pub mod EvaluationLemmas
+pub mod WorldLemmas
+pub mod ExpansionLemmas
+pub mod ParseLemmas
+pub mod ObjectLemmas
+pub mod EventLemmas
+pub mod OpeningLemmas
+pub mod WayLemmas
+pub mod CommandLemmas
+pub mod StockLemmas
+pub mod SeveralLemmas
+pub mod AbstractStockLemmas
+pub mod StockCommands
+pub mod SuitedLemmas
+pub mod LawLemmas

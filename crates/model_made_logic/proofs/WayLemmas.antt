@@ -1,0 +1,59 @@
+-- What holds of each kind of command whose form has known symbols holds of every such command.
+use Rattle.std.proofs.Common.{ℕ, List, [], ◌∷◌, Bool, true, false, Option, Some, None}
+use Rattle.std.specs.Prelude.{codes, unwrap_or, option_and_then, if◌then◌else◌}
+use Rattle.std.specs.Str.{bytes_eq}
+use Rattle.model_objects.specs.Object.{Object, Integer, Symbol, Text, Pair}
+use Rattle.model_objects.specs.Named.{Knows}
+use Rattle.model_symbols.specs.Symbols.{QualifiedName}
+use Rattle.model_expansion.specs.Forms.{elements, among, name_of, is_keyword}
+use Rattle.model_expansion.specs.Faults.{Refusal, NotSupported}
+use Rattle.model_stobjs.specs.Heads.{event_heads, is_skipped, is_unsupported}
+use Rattle.model_books.specs.Commands.{Ways, bad_shape, only_symbol, cells_way, keyword_way, headed_way, way_of}
+use Rattle.model_books_laws.proofs.WayLemmas.{ShowHolds}
+
+module _ {O : Type 0} (P : O → Type 0) (w : Ways O) (symbols : List QualifiedName) (n : ℕ) where
+  pub record KnownWays : Type 0 where
+    pub event : (head : ℕ) (d : Object ℕ) → Knows n d → P (w.event head d)
+    pub skipped : P w.skipped
+    pub refused : (r : Refusal) → P (w.refused r)
+    pub expression : (form : Object ℕ) → Knows n form → P (w.expression form)
+    pub show : (x : ℕ) → ShowHolds P w symbols (w.show x)
+    pub cells : P w.cells
+
+  module _ (h : KnownWays) where
+    holds_if : (b : Bool) (x y : O) → P x → P y → P (if b then x else y)
+    holds_if true x y p q = p
+    holds_if false x y p q = q
+
+    shown_holds : (x : Option O) (other : O) → ShowHolds P w symbols x → P other → P (unwrap_or x other)
+    shown_holds None other p q = q
+    shown_holds (Some o) other p q = p
+
+    show_holds : (x : Option ℕ) (other : O) → P other → P (unwrap_or (option_and_then w.show x) other)
+    show_holds None other q = q
+    show_holds (Some x) other q = shown_holds (w.show x) other (h.show x) q
+
+    cells_hold : (head : ℕ) (os : Option (List (Object ℕ))) → P (cells_way w symbols head os)
+    cells_hold head None = h.refused _
+    cells_hold head (Some []) = h.cells
+    cells_hold head (Some (o ∷ os)) = h.refused _
+
+    keyword_holds : (head : ℕ) (d : Object ℕ) → P (keyword_way w symbols head d)
+    keyword_holds head d =
+        holds_if (bytes_eq (name_of symbols head) (codes "SHOW")) _ _ (show_holds (only_symbol w symbols (elements d)) (bad_shape w symbols head) (h.refused _))
+        (holds_if (bytes_eq (name_of symbols head) (codes "CELLS")) _ _ (cells_hold head (elements d)) (h.refused (NotSupported head)))
+
+    headed_holds : (head : ℕ) (d : Object ℕ) → Knows n (Pair (Symbol head) d) → P (headed_way w symbols head d)
+    headed_holds head d k =
+        holds_if (among head event_heads) _ _ (h.event head d k.1)
+        (holds_if (is_skipped head) _ _ h.skipped
+        (holds_if (is_unsupported head) _ _ (h.refused (NotSupported head)) (holds_if (is_keyword symbols head) _ _ (keyword_holds head d) (h.expression (Pair (Symbol head) d) k))))
+
+    pub known_way : (form : Object ℕ) → Knows n form → P (way_of w symbols form)
+    known_way (Integer i) k = h.expression (Integer i) k
+    known_way (Symbol x) k = h.expression (Symbol x) k
+    known_way (Text bytes) k = h.expression (Text bytes) k
+    known_way (Pair (Integer i) d) k = h.expression (Pair (Integer i) d) k
+    known_way (Pair (Symbol head) d) k = headed_holds head d k
+    known_way (Pair (Text bytes) d) k = h.expression (Pair (Text bytes) d) k
+    known_way (Pair (Pair a b) d) k = h.expression (Pair (Pair a b) d) k

@@ -1,5 +1,0 @@
-use Rattle.model_symbols_laws.proofs.LawLemmas.{opens_right}
-use Rattle.model_symbols_laws.proofs.opening_holds_named_symbols.Goals as goal
-
-pub returns : goal.returns
-returns c = opens_right
