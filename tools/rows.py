@@ -11,8 +11,10 @@ import pathlib
 CRATES = pathlib.Path(__file__).resolve().parent.parent / "crates"
 BOOKS = {
     "model_books_rows": "Worked books, each computed from the definitions: from the bytes of a book to the bytes of its answers.",
-    "model_exports_rows": "Books that stop inside an export, each computed from the definitions: the object is as it was at the export's call.",
-    "model_events_rows": "Books of expansion and of events, each computed from the definitions: shapes, refusals in their order, counts.",
+    "model_exports_rows": "Books that stop inside an export, each computed from the definitions: the stobj is as it was at the export's call.",
+    "model_expansion_rows": "Books of expansion, each computed from the definitions: shapes, refusals in their order, counts.",
+    "model_stobjs_rows": "Books of stobjs and abstract stobjs, each computed from the definitions: shapes, names, refusals in their order.",
+    "model_events_rows": "Books of other events, each computed from the definitions: shapes, refusals in their order, counts.",
 }
 STATUS = {"0": "Done", "1": "Errors", "2": "Words", "3": "Text"}
 
@@ -26,20 +28,20 @@ UNFOLDED = {
     "Rattle.model_prims.specs.Applied": "bounded applied_to",
     "Rattle.model_prims.specs.Values": "recognized related computed listed named_by wanted",
     "Rattle.model_prims.specs.Rows": "table",
-    "Rattle.model_lists.specs.Generated": "accessed changed lengthened hash_read hash_bound hash_looked_up hash_put hash_removed",
+    "Rattle.model_lists.specs.Effects": "accessed changed lengthened hash_read hash_bound hash_looked_up hash_put hash_removed",
     "Rattle.model_terms.specs.Sites": "below below_parts below_actuals",
     "Rattle.model_terms.specs.Nested": "stobj_let_holds with_local_holds",
     "Rattle.model_terms.specs.Faults": "first_in first_at first_fault",
     "Rattle.model_terms.specs.Outputs": "outputs",
-    "Rattle.model_eval.specs.Worlds": "layout_within",
-    "Rattle.model_eval.specs.Generated": "effect",
+    "Rattle.model_eval.specs.StobjLayouts": "layout_within",
+    "Rattle.model_eval.specs.GeneratedCalls": "effect",
     "Rattle.model_eval.specs.Evaluated": "exec_called called in_order all_borrowed put_back evaluated",
     "Rattle.model_stobjs.specs.Obligations": "core_object core_objects binding_objects obligations",
     "Rattle.model_stobjs.specs.Heads": "name_in_use",
     "Rattle.model_events.specs.Constants": "constant_read package_read current_read",
     "Rattle.model_events.specs.Macros": "written_macro macro_read",
     "Rattle.model_stobjs.specs.Abstracts": "written_abstract abstract_read",
-    "Rattle.model_stobjs.specs.Objects": "written_object nesting_within shape_of names_made descriptor_read",
+    "Rattle.model_stobjs.specs.Descriptors": "written_stobj nesting_within shape_of names_made descriptor_read",
     "Rattle.model_stobjs.specs.Guards": "renamed_core renamed_cores with_functions all_with_functions binds any_binds generated_guard",
     "Rattle.model_expansion.specs.Expansion": "macro_values look_at settled grown_all grown",
     "Rattle.model_expansion.specs.Layers": "made_of",

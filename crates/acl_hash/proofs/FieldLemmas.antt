@@ -37,10 +37,10 @@ abbrev IsPart : Places → Object ℕ → Bool → Root → Type 0
 IsPart ps q b r = part_of b (entry_at ps q) ≡ Some r
 
 module _ {ps qs : Places} {k : Object ℕ} {w : Option (Option Entry)} (at : IsAt ps qs k w) where
-  entry_here : (q : Object ℕ) → same_key k q ≡ true → entry_at qs q ≡ option_flatten w
+  pub entry_here : (q : Object ℕ) → same_key k q ≡ true → entry_at qs q ≡ option_flatten w
   entry_here q e = ap option_flatten (at.is q ∙ ap (λ (b : Bool). if b then w else place_at ps q) e)
 
-  entry_there : (q : Object ℕ) → same_key k q ≡ false → entry_at qs q ≡ entry_at ps q
+  pub entry_there : (q : Object ℕ) → same_key k q ≡ false → entry_at qs q ≡ entry_at ps q
   entry_there q e = ap option_flatten (at.is q ∙ ap (λ (b : Bool). if b then w else place_at ps q) e)
 
   -- a root of the new field is the key's, or it was there
@@ -237,14 +237,14 @@ clear_begins f d = record {
   spares = refl;
 }
 
-first_entry : (k : Object ℕ) (o : Option Entry) (ps : Places) → entry_at ((k, o) ∷ ps) k ≡ o
+pub first_entry : (k : Object ℕ) (o : Option Entry) (ps : Places) → entry_at ((k, o) ∷ ps) k ≡ o
 first_entry k o ps = ap (λ (b : Bool). option_flatten (cond b (Some o) (place_at ps k))) (same_itself k)
 
-rest_distinct : (k : Object ℕ) (o : Option Entry) (ps : Places) → IsDistinct same_key (keys_of ((k, o) ∷ ps)) → IsDistinct same_key (keys_of ps)
+pub rest_distinct : (k : Object ℕ) (o : Option Entry) (ps : Places) → IsDistinct same_key (keys_of ((k, o) ∷ ps)) → IsDistinct same_key (keys_of ps)
 unfolding IsDistinct
 rest_distinct k o ps d = d.1
 
-without_first : (k : Object ℕ) (o : Option Entry) (ps : Places) → IsDistinct same_key (keys_of ((k, o) ∷ ps)) → IsAt ((k, o) ∷ ps) ps k None
+pub without_first : (k : Object ℕ) (o : Option Entry) (ps : Places) → IsDistinct same_key (keys_of ((k, o) ∷ ps)) → IsAt ((k, o) ∷ ps) ps k None
 without_first k o ps d = record { is = λ q. go q (same_key k q) refl }
   where
     gone : place_at ps k ≡ None

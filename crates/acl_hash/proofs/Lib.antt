@@ -3,3 +3,6 @@ pub mod MakeLemmas
 pub mod PlaceLemmas
 pub mod RootLemmas
 pub mod FieldLemmas
+pub mod CompareLemmas
+pub mod SortLemmas
+pub mod ListLemmas

@@ -3,3 +3,5 @@ pub mod Same
 pub mod Making
 pub mod Places
 pub mod Pools
+pub mod Comparing
+pub mod Sorting

@@ -1,17 +1,20 @@
 //! Hash fields.
 
-ghost use Rattle.std.specs.Prelude.{◌≡◌, [], false, Some, None, IsSome, OnOk, OnErr};
+ghost use Rattle.std.specs.Prelude.{◌≡◌, [], false, Some, None, IsSome, IfOk, OnOk, OnErr};
 ghost use Rattle.std.specs.Option.{option_copied};
-ghost use Rattle.acl_heap.specs.Objects.{object_of, Lies};
+ghost use Rattle.acl_heap.specs.Objects.{object_of, Lies, Extends};
 ghost use Rattle.acl_hash.specs.Places.{place_at, entry_at, part_of, entry_count, one_of as ones, Changes, tidied};
 ghost use Rattle.acl_hash.specs.Pools.{Fits, Puts, Removes, Clears, Refuses};
+ghost use Rattle.acl_hash.specs.Sorting.{KnowsField, IsListing};
 
 use crate::entry::{give_back, put_entry};
+use crate::listing::list_pairs;
 use crate::places::{Places, make_at, make_room, put_at, swap_at, take_at, tidy_at};
 use crate::{Entry, Key};
 use acl_base::Word;
 use acl_heap::Heap;
 use acl_pool::{Pool, Root};
+use acl_syms::Symbols;
 use std::alloc::{AllocError, Global};
 use std::collections::HashMap;
 
@@ -51,6 +54,30 @@ impl HashField {
         ensures { result ≡ entry_count self.now.places.entries }
     {
         self.full
+    }
+
+    /// The pairs in the total order of keys, with symbols in the order of their names.
+    pub fn pairs(
+        &self,
+        alloc: Global,
+        pool: &Pool,
+        heap: &mut Heap,
+        syms: &Symbols,
+    ) -> Result<Vec<(Word, Word)>, AllocError>
+        requires fits { Fits pool.now self.now.places.entries }
+        requires known { KnowsField syms.now.symbols pool.now self.now.places.entries }
+        ensures grows { Extends heap.old heap.new }
+        ensures ok { IfOk result (λ ws. IsListing syms.now.symbols pool.now self.now.places.entries heap.new ws.items) }
+        ensures err { OnErr result (heap.new ≡ heap.old) }
+    {
+        let mark = heap.mark();
+        match list_pairs(alloc, &self.places, pool, heap, syms) {
+            Ok(pairs) => Ok(pairs),
+            Err(e) => {
+                heap.reset(mark);
+                Err(e)
+            }
+        }
     }
 
     /// Gives the key this value. The room, the key and the value are there before the field changes.

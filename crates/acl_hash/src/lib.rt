@@ -2,10 +2,13 @@
 #![tactic(auto)]
 
 mod bytes;
+mod compare;
 mod entry;
 mod field;
 mod key;
+mod listing;
 mod places;
+mod sorting;
 #[cfg(test)]
 mod tests;
 

@@ -9,9 +9,9 @@ use Rattle.acl_heap.specs.Objects.{Objects, object_of}
 use Rattle.model_terms.specs.Cores as cores
 use Rattle.model_terms.specs.Cores.{reached_from, reached_by, reached}
 use Rattle.model_terms.specs.Worlds as worlds
-use Rattle.model_terms.specs.Children.{Holds, One, Many, ChildAccessor, child_accessor}
+use Rattle.model_terms.specs.Accessors.{HeldStobjs, One, Many, ChildAccessor, child_accessor}
 use Rattle.model_terms.specs.Nested as nested
-use Rattle.model_terms.specs.Nested.{takes_index, bound_child_by, bound_child, with_child, bound_children}
+use Rattle.model_terms.specs.Nested.{takes_index, bound_child_by, bound_child, with_bound_child, bound_children}
 use Rattle.acl_terms.specs.declared.form.Core.{Core}
 use Rattle.acl_terms.specs.declared.form.Core.TheViews as views
 use Rattle.acl_terms.specs.declared.form.Core.TheVariants as variants
@@ -44,8 +44,8 @@ module _ (h : Objects) where
   pub plain_stobj_let : (bs : List (SymId × Core)) (vars : List SymId) (p c : Core) → plain (seen_core h (views.StobjLet bs vars p c)) ≡ no_index
   plain_stobj_let bs vars p c = ap plain (seen_stobj_let h bs vars p c)
 
-  pub plain_with_local : (object : SymId) (names : List SymId) (a b : Core) → plain (seen_core h (views.WithLocal object names a b)) ≡ no_index
-  plain_with_local object names a b = ap plain (seen_with_local h object names a b)
+  pub plain_with_local : (stobj : SymId) (names : List SymId) (a b : Core) → plain (seen_core h (views.WithLocal stobj names a b)) ≡ no_index
+  plain_with_local stobj names a b = ap plain (seen_with_local h stobj names a b)
 
   pub plain_must_be_equal : (a b : Core) → plain (seen_core h (views.MustBeEqual a b)) ≡ no_index
   plain_must_be_equal a b = ap plain (seen_must_be_equal h a b)
@@ -79,8 +79,8 @@ module _ (h : Objects) where
   pub reached_stobj_let : (bs : List (SymId × Core)) (vars : List SymId) (p c : Core) → option_map plain_reached (reached (seen_core h (views.StobjLet bs vars p c))) ≡ None
   reached_stobj_let bs vars p c = ap plainly (seen_stobj_let h bs vars p c)
 
-  pub reached_with_local : (object : SymId) (names : List SymId) (a b : Core) → option_map plain_reached (reached (seen_core h (views.WithLocal object names a b))) ≡ None
-  reached_with_local object names a b = ap plainly (seen_with_local h object names a b)
+  pub reached_with_local : (stobj : SymId) (names : List SymId) (a b : Core) → option_map plain_reached (reached (seen_core h (views.WithLocal stobj names a b))) ≡ None
+  reached_with_local stobj names a b = ap plainly (seen_with_local h stobj names a b)
 
   pub reached_must_be_equal : (a b : Core) → option_map plain_reached (reached (seen_core h (views.MustBeEqual a b))) ≡ None
   reached_must_be_equal a b = ap plainly (seen_must_be_equal h a b)
@@ -121,7 +121,7 @@ module _ (h : Objects) (f : ℕ) where
 
 -- ---- children
 
-takes_plainly : (k : Holds) (i : Option cores.Core) → takes_index k (option_map plain i) ≡ takes_index k i
+takes_plainly : (k : HeldStobjs) (i : Option cores.Core) → takes_index k (option_map plain i) ≡ takes_index k i
 takes_plainly (One x) None = refl
 takes_plainly (One x) (Some i) = refl
 takes_plainly (Many x) None = refl
@@ -161,7 +161,7 @@ module _ (w : worlds.World) (x : ℕ) where
 
 -- ---- all bindings
 
-with_plain : (b : Option nested.BoundChild) (bs : Option (List nested.BoundChild)) → plain_children (with_child b bs) ≡ with_child (option_map plain_child b) (plain_children bs)
+with_plain : (b : Option nested.BoundChild) (bs : Option (List nested.BoundChild)) → plain_children (with_bound_child b bs) ≡ with_bound_child (option_map plain_child b) (plain_children bs)
 with_plain None bs = refl
 with_plain (Some b) None = refl
 with_plain (Some b) (Some bs) = refl
@@ -170,7 +170,7 @@ found_nothing : (o : Option (List nested.BoundChild)) → o ≡ found_then [] o
 found_nothing None = refl
 found_nothing (Some bs) = refl
 
-found_one : (found : List nested.BoundChild) (b : nested.BoundChild) (rest : Option (List nested.BoundChild)) → found_then found (with_child (Some b) rest) ≡ found_then (found ++ b ∷ []) rest
+found_one : (found : List nested.BoundChild) (b : nested.BoundChild) (rest : Option (List nested.BoundChild)) → found_then found (with_bound_child (Some b) rest) ≡ found_then (found ++ b ∷ []) rest
 found_one found b None = refl
 found_one found b (Some bs) = ap Some (sym (append_assoc found (b ∷ []) bs))
 
@@ -190,14 +190,14 @@ module _ (w : worlds.World) (h : Objects) (bs : List (SymId × Core)) where
     rest = plain_children (bound_children w (bound_names (drop (i + 1) bs)) (cores.cores (seen_bound h (drop (i + 1) bs))))
 
     on : (d : SymId × Core) → i < length bs
-        → all ≡ found_then found (with_child (option_map plain_child (bound_child w (get_or bs i d).0.0 (seen_core h (get_or bs i d).1))) rest)
+        → all ≡ found_then found (with_bound_child (option_map plain_child (bound_child w (get_or bs i d).0.0 (seen_core h (get_or bs i d).1))) rest)
     on d l =
         s.is ∙ (ap (λ xs. found_then found (plain_children (bound_children w (bound_names xs) (cores.cores (seen_bound h xs))))) (left_at bs i d l)
         ∙ ap (found_then found) (with_plain (bound_child w (get_or bs i d).0.0 (seen_core h (get_or bs i d).1)) (bound_children w (bound_names (drop (i + 1) bs)) (cores.cores (seen_bound h (drop (i + 1) bs))))))
 
     pub found_step : (d : SymId × Core) (b : nested.BoundChild) → i < length bs → Some b ≡ option_map plain_child (bound_child w (get_or bs i d).0.0 (seen_core h (get_or bs i d).1))
         → FoundSoFar all w h bs (i + 1) (found ++ b ∷ [])
-    found_step d b l n = record { is = on d l ∙ (ap (λ o. found_then found (with_child o rest)) (sym n) ∙ found_one found b rest) }
+    found_step d b l n = record { is = on d l ∙ (ap (λ o. found_then found (with_bound_child o rest)) (sym n) ∙ found_one found b rest) }
 
     pub found_none : (d : SymId × Core) → i < length bs → None ≡ option_map plain_child (bound_child w (get_or bs i d).0.0 (seen_core h (get_or bs i d).1)) → all ≡ None
-    found_none d l n = on d l ∙ ap (λ o. found_then found (with_child o rest)) (sym n)
+    found_none d l n = on d l ∙ ap (λ o. found_then found (with_bound_child o rest)) (sym n)

@@ -8,7 +8,7 @@ use Rattle.std.proofs.lemmas.List.{append-nil}
 use Rattle.model_terms.specs.Worlds as worlds
 use Rattle.model_terms.specs.Classes.{congruent}
 use Rattle.model_terms.specs.Nested as nested
-use Rattle.model_terms.specs.Nested.{child_object, stands_for, have_parent, have_indices, is_index, same_child, bind_twice}
+use Rattle.model_terms.specs.Nested.{child_stobj, stands_for, have_parent, have_indices, is_index, same_child, bind_twice}
 use Rattle.acl_outputs.proofs.ListLemmas.{left_at}
 use Rattle.acl_nest.specs.declared.bindings.BoundChild.{BoundChild}
 use Rattle.acl_nest.specs.Accessors.{seen_holds}
@@ -18,7 +18,7 @@ module _ (bs : List BoundChild) (i : ℕ) where
   module _ (w : worlds.World) (scope : worlds.Scope) (p : ℕ) where
     pub parent_step : (d : BoundChild) → i < length bs
         → have_parent w scope p (seen_children (drop i bs))
-        ≡ ((nat_eq (get_or bs i d).parent.0 p && stands_for w scope p (get_or bs i d).accessor.object.0) && have_parent w scope p (seen_children (drop (i + 1) bs)))
+        ≡ ((nat_eq (get_or bs i d).parent.0 p && stands_for w scope p (get_or bs i d).accessor.stobj.0) && have_parent w scope p (seen_children (drop (i + 1) bs)))
     parent_step d l = rw (left_at bs i d l) refl
 
     pub parent_end : length bs ≤ i → have_parent w scope p (seen_children (drop i bs)) ≡ true
@@ -35,12 +35,12 @@ module _ (bs : List BoundChild) (i : ℕ) where
 
   module _ (w : worlds.World) where
     pub congruent_step : (d : BoundChild) → i < length bs
-        → list_all (λ (b : nested.BoundChild). congruent w (child_object b.accessor.holds) b.name) (seen_children (drop i bs))
-        ≡ (congruent w (child_object (seen_holds (get_or bs i d).accessor.holds)) (get_or bs i d).name.0
-        && list_all (λ (b : nested.BoundChild). congruent w (child_object b.accessor.holds) b.name) (seen_children (drop (i + 1) bs)))
+        → list_all (λ (b : nested.BoundChild). congruent w (child_stobj b.accessor.holds) b.name) (seen_children (drop i bs))
+        ≡ (congruent w (child_stobj (seen_holds (get_or bs i d).accessor.holds)) (get_or bs i d).name.0
+        && list_all (λ (b : nested.BoundChild). congruent w (child_stobj b.accessor.holds) b.name) (seen_children (drop (i + 1) bs)))
     congruent_step d l = rw (left_at bs i d l) refl
 
-    pub congruent_end : length bs ≤ i → list_all (λ (b : nested.BoundChild). congruent w (child_object b.accessor.holds) b.name) (seen_children (drop i bs)) ≡ true
+    pub congruent_end : length bs ≤ i → list_all (λ (b : nested.BoundChild). congruent w (child_stobj b.accessor.holds) b.name) (seen_children (drop i bs)) ≡ true
     congruent_end l = rw (drop_of_length-le bs l) refl
 
   module _ (scope : worlds.Scope) (vars : List ℕ) where

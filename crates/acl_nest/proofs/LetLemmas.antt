@@ -11,7 +11,7 @@ use Rattle.model_terms.specs.Cores as cores
 use Rattle.model_terms.specs.Worlds as worlds
 use Rattle.model_terms.specs.Classes.{congruent, repeats}
 use Rattle.model_terms.specs.Nested as nested
-use Rattle.model_terms.specs.Nested.{child_object, stands_for, have_parent, have_names, constant_index, is_index, have_indices, same_number, same_index, same_child, bind_twice, are_vars, parent_expected, children_hold, bound_children, bindings_hold, stobj_let_holds}
+use Rattle.model_terms.specs.Nested.{child_stobj, stands_for, have_parent, have_names, constant_index, is_index, have_indices, same_number, same_constant_index, same_child, bind_twice, are_vars, parent_expected, children_hold, bound_children, bindings_hold, stobj_let_holds}
 use Rattle.model_terms.specs.Rules.{s13_fails}
 use Rattle.acl_terms.specs.declared.form.Core.{Core}
 use Rattle.acl_terms.specs.declared.form.Core.TheViews as views
@@ -35,7 +35,7 @@ plain_constant (cores.Let names bound body) = refl
 plain_constant (cores.Mv parts) = refl
 plain_constant (cores.MvLet names bound body) = refl
 plain_constant (cores.StobjLet names bound vars producer consumer) = refl
-plain_constant (cores.WithLocal object names producer body) = refl
+plain_constant (cores.WithLocal stobj names producer body) = refl
 plain_constant (cores.MustBeEqual logic exec) = refl
 plain_constant (cores.Call f actuals) = refl
 
@@ -51,26 +51,26 @@ plain_is_index scope vars (cores.Let names bound body) = refl
 plain_is_index scope vars (cores.Mv parts) = refl
 plain_is_index scope vars (cores.MvLet names bound body) = refl
 plain_is_index scope vars (cores.StobjLet names bound vars2 producer consumer) = refl
-plain_is_index scope vars (cores.WithLocal object names producer body) = refl
+plain_is_index scope vars (cores.WithLocal stobj names producer body) = refl
 plain_is_index scope vars (cores.MustBeEqual logic exec) = refl
 plain_is_index scope vars (cores.Call f actuals) = refl
 
 plain_parent : (w : worlds.World) (scope : worlds.Scope) (p : ℕ) (bs : List nested.BoundChild) → have_parent w scope p (map plain_child bs) ≡ have_parent w scope p bs
 plain_parent w scope p [] = refl
-plain_parent w scope p (b ∷ bs) = ap (λ rest. (nat_eq b.parent p && stands_for w scope p b.accessor.object) && rest) (plain_parent w scope p bs)
+plain_parent w scope p (b ∷ bs) = ap (λ rest. (nat_eq b.parent p && stands_for w scope p b.accessor.stobj) && rest) (plain_parent w scope p bs)
 
 names_plain : (bs : List nested.BoundChild) → map (λ (b : nested.BoundChild). b.name) (map plain_child bs) ≡ map (λ (b : nested.BoundChild). b.name) bs
 names_plain [] = refl
 names_plain (b ∷ bs) = ap (λ ns. b.name ∷ ns) (names_plain bs)
 
 plain_congruent : (w : worlds.World) (bs : List nested.BoundChild)
-    → list_all (λ (b : nested.BoundChild). congruent w (child_object b.accessor.holds) b.name) (map plain_child bs) ≡ list_all (λ (b : nested.BoundChild). congruent w (child_object b.accessor.holds) b.name) bs
+    → list_all (λ (b : nested.BoundChild). congruent w (child_stobj b.accessor.holds) b.name) (map plain_child bs) ≡ list_all (λ (b : nested.BoundChild). congruent w (child_stobj b.accessor.holds) b.name) bs
 plain_congruent w [] = refl
-plain_congruent w (b ∷ bs) = ap (λ rest. congruent w (child_object b.accessor.holds) b.name && rest) (plain_congruent w bs)
+plain_congruent w (b ∷ bs) = ap (λ rest. congruent w (child_stobj b.accessor.holds) b.name && rest) (plain_congruent w bs)
 
 plain_names : (w : worlds.World) (p : ℕ) (bs : List nested.BoundChild) → have_names w p (map plain_child bs) ≡ have_names w p bs
 plain_names w p bs =
-    ap (λ ns. not (repeats (p ∷ ns)) && list_all (λ (b : nested.BoundChild). congruent w (child_object b.accessor.holds) b.name) (map plain_child bs)) (names_plain bs)
+    ap (λ ns. not (repeats (p ∷ ns)) && list_all (λ (b : nested.BoundChild). congruent w (child_stobj b.accessor.holds) b.name) (map plain_child bs)) (names_plain bs)
     ∙ ap (λ rest. not (repeats (p ∷ map (λ (b : nested.BoundChild). b.name) bs)) && rest) (plain_congruent w bs)
 
 plain_option : (scope : worlds.Scope) (vars : List ℕ) (i : Option cores.Core) → option_map_or (is_index scope vars) (option_map plain i) true ≡ option_map_or (is_index scope vars) i true
@@ -83,7 +83,7 @@ plain_indices scope vars (b ∷ bs) =
     ap (λ t. t && have_indices scope vars (map plain_child bs)) (plain_option scope vars b.index)
     ∙ ap (λ rest. option_map_or (is_index scope vars) b.index true && rest) (plain_indices scope vars bs)
 
-plain_same : (i j : Option cores.Core) → same_index (option_map plain i) (option_map plain j) ≡ same_index i j
+plain_same : (i j : Option cores.Core) → same_constant_index (option_map plain i) (option_map plain j) ≡ same_constant_index i j
 plain_same None None = refl
 plain_same None (Some g) = refl
 plain_same (Some f) None = refl
@@ -158,8 +158,8 @@ module _ (w : worlds.World) (scope : worlds.Scope) (expected : List worlds.Out) 
   pub fails_mv_let : (names : List SymId) (a b : Core) → not (s13_fails w scope expected (seen_core h (views.MvLet names a b))) ≡ true
   fails_mv_let names a b = ap (λ f. not (s13_fails w scope expected f)) (seen_mv_let h names a b)
 
-  pub fails_with_local : (object : SymId) (names : List SymId) (a b : Core) → not (s13_fails w scope expected (seen_core h (views.WithLocal object names a b))) ≡ true
-  fails_with_local object names a b = ap (λ f. not (s13_fails w scope expected f)) (seen_with_local h object names a b)
+  pub fails_with_local : (stobj : SymId) (names : List SymId) (a b : Core) → not (s13_fails w scope expected (seen_core h (views.WithLocal stobj names a b))) ≡ true
+  fails_with_local stobj names a b = ap (λ f. not (s13_fails w scope expected f)) (seen_with_local h stobj names a b)
 
   pub fails_must_be_equal : (a b : Core) → not (s13_fails w scope expected (seen_core h (views.MustBeEqual a b))) ≡ true
   fails_must_be_equal a b = ap (λ f. not (s13_fails w scope expected f)) (seen_must_be_equal h a b)

@@ -6,7 +6,7 @@ use Rattle.acl_base.specs.declared.Word.{Word}
 use Rattle.acl_heap.specs.Objects.{Objects}
 use Rattle.model_terms.specs.Cores as cores
 use Rattle.model_terms.specs.Worlds as worlds
-use Rattle.model_terms.specs.Classes.{is_object_name, has}
+use Rattle.model_terms.specs.Classes.{is_stobj_name, has}
 use Rattle.model_terms.specs.Nested.{with_local_holds}
 use Rattle.model_terms.specs.Rules.{s14_fails}
 use Rattle.acl_terms.specs.Depths.{depth_of}
@@ -17,16 +17,16 @@ use Rattle.acl_terms.specs.Forms.{numbers, seen_core}
 use Rattle.acl_terms.specs.FormLaws.{seen_var, seen_const, seen_if, seen_let, seen_mv, seen_mv_let, seen_stobj_let, seen_with_local, seen_must_be_equal, seen_call}
 use Rattle.acl_nest.specs.Local.{names_hold}
 
-module _ (w : worlds.World) (scope : worlds.Scope) (expected : List worlds.Out) (object : ℕ) (names : List ℕ) (producer : cores.Core) where
-  pub local_apart : is_object_name w object ≡ false → with_local_holds w scope expected object names producer ≡ false
+module _ (w : worlds.World) (scope : worlds.Scope) (expected : List worlds.Out) (stobj : ℕ) (names : List ℕ) (producer : cores.Core) where
+  pub local_apart : is_stobj_name w stobj ≡ false → with_local_holds w scope expected stobj names producer ≡ false
   unfolding with_local_holds
   local_apart h = rw h refl
 
-  pub local_missing : is_object_name w object ≡ true → has names object ≡ false → with_local_holds w scope expected object names producer ≡ false
+  pub local_missing : is_stobj_name w stobj ≡ true → has names stobj ≡ false → with_local_holds w scope expected stobj names producer ≡ false
   unfolding with_local_holds
   local_missing h m = rw (h, m) refl
 
-  pub local_there : is_object_name w object ≡ true → has names object ≡ true → with_local_holds w scope expected object names producer ≡ names_hold w scope expected object names producer
+  pub local_there : is_stobj_name w stobj ≡ true → has names stobj ≡ true → with_local_holds w scope expected stobj names producer ≡ names_hold w scope expected stobj names producer
   unfolding with_local_holds
   local_there h m = rw (h, m) refl
 
@@ -62,11 +62,11 @@ module _ (w : worlds.World) (scope : worlds.Scope) (expected : List worlds.Out) 
   pub fails_call : (f : SymId) (parts : List Core) → not (s14_fails w scope expected (seen_core h (views.Call f parts))) ≡ true
   fails_call f parts = ap (λ f. not (s14_fails w scope expected f)) (seen_call h f parts)
 
-  pub fails_with_local : (object : SymId) (names : List SymId) (a b : Core)
-      → not (s14_fails w scope expected (seen_core h (views.WithLocal object names a b))) ≡ with_local_holds w scope expected object.0 (numbers names) (seen_core h a)
-  fails_with_local object names a b =
-      ap (λ f. not (s14_fails w scope expected f)) (seen_with_local h object names a b) ∙ not_not (with_local_holds w scope expected object.0 (numbers names) (seen_core h a))
+  pub fails_with_local : (stobj : SymId) (names : List SymId) (a b : Core)
+      → not (s14_fails w scope expected (seen_core h (views.WithLocal stobj names a b))) ≡ with_local_holds w scope expected stobj.0 (numbers names) (seen_core h a)
+  fails_with_local stobj names a b =
+      ap (λ f. not (s14_fails w scope expected f)) (seen_with_local h stobj names a b) ∙ not_not (with_local_holds w scope expected stobj.0 (numbers names) (seen_core h a))
 
 module _ (h : Objects) (n : ℕ) where
-  pub producer_depth : (object : SymId) (names : List SymId) (a b : Core) → depth_of (seen_core h (views.WithLocal object names a b)) ≤ n → depth_of (seen_core h a) ≤ n
-  producer_depth object names a b l = omega (arith, l, ap depth_of (seen_with_local h object names a b))
+  pub producer_depth : (stobj : SymId) (names : List SymId) (a b : Core) → depth_of (seen_core h (views.WithLocal stobj names a b)) ≤ n → depth_of (seen_core h a) ≤ n
+  producer_depth stobj names a b l = omega (arith, l, ap depth_of (seen_with_local h stobj names a b))

@@ -5,7 +5,7 @@ use Rattle.std.proofs.Common.{arith, get_or}
 use Rattle.std.proofs.Math.ListN.{drop_of_length-le}
 use Rattle.acl_base.specs.declared.SymId.{SymId}
 use Rattle.model_terms.specs.Worlds as worlds
-use Rattle.model_terms.specs.Classes.{is_object_name, has, repeats}
+use Rattle.model_terms.specs.Classes.{is_stobj_name, has, repeats}
 use Rattle.model_terms.specs.Nested as nested
 use Rattle.model_terms.specs.Nested.{have_parent, have_names, have_indices, bind_twice, are_vars, parent_expected, children_hold}
 use Rattle.acl_terms.specs.Forms.{numbers}
@@ -13,11 +13,11 @@ use Rattle.acl_outputs.proofs.ListLemmas.{left_at}
 
 module _ (w : worlds.World) (children : List ℕ) where
   pub vars_step : (ns : List SymId) (i : ℕ) (d : SymId) → i < length ns
-      → list_all (λ x. has children x || not (is_object_name w x)) (numbers (drop i ns))
-      ≡ ((has children (get_or ns i d).0 || not (is_object_name w (get_or ns i d).0)) && list_all (λ x. has children x || not (is_object_name w x)) (numbers (drop (i + 1) ns)))
+      → list_all (λ x. has children x || not (is_stobj_name w x)) (numbers (drop i ns))
+      ≡ ((has children (get_or ns i d).0 || not (is_stobj_name w (get_or ns i d).0)) && list_all (λ x. has children x || not (is_stobj_name w x)) (numbers (drop (i + 1) ns)))
   vars_step ns i d l = rw (left_at ns i d l) refl
 
-  pub vars_end : (ns : List SymId) (i : ℕ) → length ns ≤ i → list_all (λ x. has children x || not (is_object_name w x)) (numbers (drop i ns)) ≡ true
+  pub vars_end : (ns : List SymId) (i : ℕ) → length ns ≤ i → list_all (λ x. has children x || not (is_stobj_name w x)) (numbers (drop i ns)) ≡ true
   vars_end ns i l = rw (drop_of_length-le ns l) refl
 
   pub vars_none : (vars : List SymId) → length vars ≡ 0 → are_vars w children (numbers vars) ≡ false
@@ -29,7 +29,7 @@ module _ (w : worlds.World) (children : List ℕ) where
   vars_repeat (v ∷ vars) r = rw r refl
 
   pub vars_all : (vars : List SymId) → 0 < length vars → repeats (numbers vars) ≡ false
-      → are_vars w children (numbers vars) ≡ list_all (λ x. has children x || not (is_object_name w x)) (numbers vars)
+      → are_vars w children (numbers vars) ≡ list_all (λ x. has children x || not (is_stobj_name w x)) (numbers vars)
   vars_all [] l r = absurd (omega (arith, l))
   vars_all (v ∷ vars) l r = rw r refl
 

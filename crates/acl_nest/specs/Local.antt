@@ -4,8 +4,8 @@ use Rattle.model_terms.specs.Cores.{Core}
 use Rattle.model_terms.specs.Worlds.{World, Out, Scope}
 use Rattle.model_terms.specs.Scopes.{name_kinds, local_scope, other_names}
 use Rattle.model_terms.specs.Outputs.{outs}
-use Rattle.model_terms.specs.Nested.{objects_expected, same_kinds}
+use Rattle.model_terms.specs.Nested.{stobjs_expected, same_kinds}
 
 abbrev pub names_hold : World → Scope → List Out → ℕ → List ℕ → Core → Bool
-names_hold w scope expected object names producer =
-    objects_expected (name_kinds w (other_names object names)) expected && same_kinds (outs w (local_scope w scope object) producer) (name_kinds w names)
+names_hold w scope expected stobj names producer =
+    stobjs_expected (name_kinds w (other_names stobj names)) expected && same_kinds (outs w (local_scope w scope stobj) producer) (name_kinds w names)

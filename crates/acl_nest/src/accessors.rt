@@ -2,7 +2,7 @@
 
 ghost use Rattle.std.specs.Prelude.{◌≡◌, Some, None, slice_get, option_map, option_and_then};
 ghost use Rattle.model_terms.specs.Worlds as worlds;
-ghost use Rattle.model_terms.specs.Children.{descriptor_in, held_by, held_in, accessor_to, accessor_in, child_accessor};
+ghost use Rattle.model_terms.specs.Accessors.{descriptor_in, held_by, held_in, accessor_to, accessor_in, child_accessor};
 ghost use Rattle.model_terms.specs.declared.role.Role.TheVariants as role;
 ghost use Rattle.acl_terms.specs.Definitions.{seen_shape, seen_definition, seen_generated};
 ghost use Rattle.acl_worlds.specs.Contents.{seen_world};
@@ -15,7 +15,7 @@ use acl_worlds::World;
 
 /// What a field that holds objects holds: one, or an array of them, each congruent to the object of this name.
 #[derive(Clone, Copy, Debug)]
-pub enum Holds {
+pub enum HeldStobjs {
     One(SymId),
     Many(SymId),
 }
@@ -24,27 +24,27 @@ pub enum Holds {
 #[derive(Clone, Copy, Debug)]
 pub struct ChildAccessor {
     /// The object that has the field.
-    pub object: SymId,
+    pub stobj: SymId,
     /// The number of the field.
     pub field: u32,
-    pub holds: Holds,
+    pub holds: HeldStobjs,
 }
 
-fn held_by(shape: Shape, _heap: &Heap) -> Option<Holds>
+fn held_by(shape: Shape, _heap: &Heap) -> Option<HeldStobjs>
     ensures { option_map seen_holds result ≡ held_by (seen_shape _heap.now shape) }
 {
     match shape {
         Shape::Scalar { .. } => None,
         Shape::Array { .. } => None,
         Shape::Hash(_) => None,
-        Shape::Child(object) => Some(Holds::One(object)),
-        Shape::Children { object, .. } => Some(Holds::Many(object)),
+        Shape::Child(stobj) => Some(HeldStobjs::One(stobj)),
+        Shape::Children { stobj, .. } => Some(HeldStobjs::Many(stobj)),
     }
 }
 
 /// What a field of an object holds, where it holds objects.
 #[tactic(auto, using(crate::proofs::AccessorLemmas::held_there, crate::proofs::AccessorLemmas::held_nowhere))]
-fn held_at(definition: &Definition, field: u32, heap: &Heap) -> Option<Holds>
+fn held_at(definition: &Definition, field: u32, heap: &Heap) -> Option<HeldStobjs>
     ensures { option_map seen_holds result ≡ option_and_then (λ (e : worlds.Field). held_by e.shape) (option_and_then (λ (d : worlds.Descriptor). slice_get d.fields field) (descriptor_in (seen_definition heap.now definition.now))) }
 {
     match definition {
@@ -65,12 +65,12 @@ fn held_at(definition: &Definition, field: u32, heap: &Heap) -> Option<Holds>
 }
 
 /// What the field of a function holds, where it is a function of one and the field holds objects.
-pub fn held_in(world: &World, heap: &Heap, function: &GeneratedFunction) -> Option<Holds>
+pub fn held_in(world: &World, heap: &Heap, function: &GeneratedFunction) -> Option<HeldStobjs>
     ensures { option_map seen_holds result ≡ held_in (seen_world heap.now world.now) (seen_generated function.now) }
 {
     match function.field {
         None => None,
-        Some(field) => match world.look(function.object, heap) {
+        Some(field) => match world.look(function.stobj, heap) {
             None => None,
             Some(definition) => held_at(definition, field, heap),
         },
@@ -85,7 +85,7 @@ fn accessed(world: &World, heap: &Heap, function: &GeneratedFunction) -> Option<
         Some(field) => match held_in(world, heap, function) {
             None => None,
             Some(holds) => Some(ChildAccessor {
-                object: function.object,
+                stobj: function.stobj,
                 field,
                 holds,
             }),

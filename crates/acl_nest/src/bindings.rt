@@ -10,7 +10,7 @@ ghost use Rattle.acl_worlds.specs.Contents.{seen_world};
 ghost use Rattle.acl_nest.specs.Accessors.{seen_holds, seen_accessor};
 ghost use Rattle.acl_nest.specs.Bindings.{plain, plain_reached, plain_child, plain_children, seen_index, seen_reached, seen_child, seen_children, FormsLie, BoundLie};
 
-use crate::accessors::{ChildAccessor, Holds, child_accessor};
+use crate::accessors::{ChildAccessor, HeldStobjs, child_accessor};
 use acl_base::{SymId, Word};
 use acl_heap::{Heap, Seen};
 use acl_outputs::variable;
@@ -133,15 +133,15 @@ pub fn reached_in(core: &Core, heap: &Heap) -> Option<Reached>
     }
 }
 
-fn takes_index(holds: Holds, index: Option<ChildIndex>) -> bool
+fn takes_index(holds: HeldStobjs, index: Option<ChildIndex>) -> bool
     ensures { result ≡ takes_index (seen_holds holds) (option_map seen_index index) }
 {
     match holds {
-        Holds::One(_) => match index {
+        HeldStobjs::One(_) => match index {
             None => true,
             Some(_) => false,
         },
-        Holds::Many(_) => match index {
+        HeldStobjs::Many(_) => match index {
             None => false,
             Some(_) => true,
         },

@@ -4,7 +4,7 @@ ghost use Rattle.std.specs.Prelude.{◌≡◌, ◌∷◌, ◌&&◌, map, not, is
 ghost use Rattle.std.specs.Option.{option_map_or};
 ghost use Rattle.std.specs.List.{list_any, list_all};
 ghost use Rattle.model_terms.specs.Nested as nested;
-ghost use Rattle.model_terms.specs.Nested.{child_object, stands_for, have_parent, have_names, constant_index, is_ordinary_in, is_index, have_indices, same_number, same_index, same_child, bind_twice};
+ghost use Rattle.model_terms.specs.Nested.{child_stobj, stands_for, have_parent, have_names, constant_index, is_ordinary_in, is_index, have_indices, same_number, same_constant_index, same_child, bind_twice};
 ghost use Rattle.model_terms.specs.Classes.{congruent, repeats};
 ghost use Rattle.acl_terms.specs.Forms.{numbers};
 ghost use Rattle.acl_terms.specs.Signatures.{seen_scope};
@@ -12,7 +12,7 @@ ghost use Rattle.acl_worlds.specs.Contents.{seen_world};
 ghost use Rattle.acl_nest.specs.Accessors.{seen_holds};
 ghost use Rattle.acl_nest.specs.Bindings.{seen_index, seen_child, seen_children};
 
-use crate::accessors::Holds;
+use crate::accessors::HeldStobjs;
 use crate::bindings::{BoundChild, ChildIndex};
 use crate::kinds::is_object;
 use acl_base::SymId;
@@ -26,11 +26,11 @@ use std::alloc::{AllocError, Global};
 // ---- the parent
 
 /// Whether a name is the variable of an object in scope, congruent to this object.
-fn stands_for(world: &World, heap: &Heap, scope: &Scope, name: SymId, object: SymId) -> bool
-    ensures { result ≡ stands_for (seen_world heap.now world.now) (seen_scope scope.now) name.0 object.0 }
+fn stands_for(world: &World, heap: &Heap, scope: &Scope, name: SymId, stobj: SymId) -> bool
+    ensures { result ≡ stands_for (seen_world heap.now world.now) (seen_scope scope.now) name.0 stobj.0 }
 {
     if is_object(scope.kind_of(name)) {
-        congruent(world, heap, object, name)
+        congruent(world, heap, stobj, name)
     } else {
         false
     }
@@ -52,7 +52,7 @@ pub fn have_parent(
         if child.parent.0 != parent.0 {
             return false;
         }
-        if !stands_for(world, heap, scope, parent, child.accessor.object) {
+        if !stands_for(world, heap, scope, parent, child.accessor.stobj) {
             return false;
         }
     }
@@ -62,12 +62,12 @@ pub fn have_parent(
 // ---- the names
 
 /// The object that a child is congruent to.
-fn child_object(holds: Holds) -> SymId
-    ensures { result.0 ≡ child_object (seen_holds holds) }
+fn child_stobj(holds: HeldStobjs) -> SymId
+    ensures { result.0 ≡ child_stobj (seen_holds holds) }
 {
     match holds {
-        Holds::One(object) => object,
-        Holds::Many(object) => object,
+        HeldStobjs::One(stobj) => stobj,
+        HeldStobjs::Many(stobj) => stobj,
     }
 }
 
@@ -84,11 +84,11 @@ fn names_of(alloc: Global, children: &[BoundChild]) -> Result<Items<SymId>, Allo
 
 #[tactic(auto, using(crate::proofs::ChildLemmas::congruent_step, crate::proofs::ChildLemmas::congruent_end))]
 fn all_congruent(world: &World, heap: &Heap, children: &[BoundChild]) -> bool
-    ensures { result ≡ list_all (λ (b : nested.BoundChild). congruent (seen_world heap.now world.now) (child_object b.accessor.holds) b.name) (seen_children children.now) }
+    ensures { result ≡ list_all (λ (b : nested.BoundChild). congruent (seen_world heap.now world.now) (child_stobj b.accessor.holds) b.name) (seen_children children.now) }
 {
     for child in children {
-        let object = child_object(child.accessor.holds);
-        if !congruent(world, heap, object, child.name) {
+        let stobj = child_stobj(child.accessor.holds);
+        if !congruent(world, heap, stobj, child.name) {
             return false;
         }
     }
@@ -192,8 +192,8 @@ fn same_number(a: ChildIndex, b: ChildIndex) -> bool
 }
 
 /// Whether neither has an index, or both are one natural number.
-fn same_index(a: BoundChild, b: BoundChild) -> bool
-    ensures { result ≡ same_index (seen_child a).index (seen_child b).index }
+fn same_constant_index(a: BoundChild, b: BoundChild) -> bool
+    ensures { result ≡ same_constant_index (seen_child a).index (seen_child b).index }
 {
     match a.index {
         None => match b.index {
@@ -212,7 +212,7 @@ fn same_child(a: BoundChild, b: BoundChild) -> bool
     ensures { result ≡ same_child (seen_child a) (seen_child b) }
 {
     if a.accessor.field == b.accessor.field {
-        same_index(a, b)
+        same_constant_index(a, b)
     } else {
         false
     }

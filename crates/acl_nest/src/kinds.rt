@@ -5,7 +5,7 @@ ghost use Rattle.std.specs.List.{list_all};
 ghost use Rattle.model_terms.specs.Classes.{has, stobjs};
 ghost use Rattle.model_terms.specs.Scopes.{name_kinds};
 ghost use Rattle.model_terms.specs.Outputs.{outs};
-ghost use Rattle.model_terms.specs.Nested.{is_stobj, same_kind, same_kinds, objects_expected};
+ghost use Rattle.model_terms.specs.Nested.{is_stobj, same_kind, same_kinds, stobjs_expected};
 ghost use Rattle.acl_terms.specs.Depths.{depth_of};
 ghost use Rattle.acl_terms.specs.Forms.{numbers, seen_core};
 ghost use Rattle.acl_terms.specs.Signatures.{seen_out, seen_outs, seen_scope};
@@ -91,8 +91,8 @@ fn all_among(names: &[SymId], among: &[SymId]) -> bool
 }
 
 /// Whether the stobjs among the kinds are all expected.
-pub fn objects_expected(alloc: Global, kinds: &[Out], expected: &[Out]) -> Result<bool, AllocError>
-    ensures { IfOk result (λ b. b ≡ objects_expected (seen_outs kinds.now) (seen_outs expected.now)) }
+pub fn stobjs_expected(alloc: Global, kinds: &[Out], expected: &[Out]) -> Result<bool, AllocError>
+    ensures { IfOk result (λ b. b ≡ stobjs_expected (seen_outs kinds.now) (seen_outs expected.now)) }
 {
     let given = stobjs(alloc, kinds)?;
     let wanted = stobjs(alloc, expected)?;

@@ -8,8 +8,8 @@ mod kinds;
 mod local;
 mod stobj_let;
 
-pub use accessors::{ChildAccessor, Holds, child_accessor, held_in};
+pub use accessors::{ChildAccessor, HeldStobjs, child_accessor, held_in};
 pub use bindings::{BoundChild, ChildIndex, Reached, bound_children, reached_in};
-pub use kinds::{is_object, name_kinds, objects_expected, outs, same_kind, same_kinds};
+pub use kinds::{is_object, name_kinds, outs, same_kind, same_kinds, stobjs_expected};
 pub use local::check_local;
 pub use stobj_let::check_let;

@@ -10,10 +10,10 @@ ghost use Rattle.acl_terms.specs.Forms.{numbers, seen_core};
 ghost use Rattle.acl_terms.specs.Signatures.{seen_outs, seen_scope};
 ghost use Rattle.acl_worlds.specs.Contents.{seen_world};
 
-use crate::kinds::{name_kinds, objects_expected, outs, same_kinds};
+use crate::kinds::{name_kinds, outs, same_kinds, stobjs_expected};
 use acl_base::SymId;
 use acl_heap::Heap;
-use acl_outputs::{bind, has, is_object_name, other_names};
+use acl_outputs::{bind, has, is_stobj_name, other_names};
 use acl_terms::{Core, Out, Scope};
 use acl_worlds::World;
 use std::alloc::{AllocError, Global};
@@ -24,12 +24,12 @@ fn local_scope(
     world: &World,
     heap: &Heap,
     scope: &Scope,
-    object: SymId,
+    stobj: SymId,
 ) -> Result<Scope, AllocError>
-    ensures { IfOk result (λ s. seen_scope s ≡ local_scope (seen_world heap.now world.now) (seen_scope scope.now) object.0) }
+    ensures { IfOk result (λ s. seen_scope s ≡ local_scope (seen_world heap.now world.now) (seen_scope scope.now) stobj.0) }
 {
     let mut inner = Scope::from_entries(alloc, scope.entries())?;
-    bind(&mut inner, world, heap, &[object])?;
+    bind(&mut inner, world, heap, &[stobj])?;
     Ok(inner)
 }
 
@@ -40,19 +40,19 @@ fn gives_names(
     heap: &Heap,
     scope: &Scope,
     expected: &[Out],
-    object: SymId,
+    stobj: SymId,
     names: &[SymId],
     producer: &Core,
 ) -> Result<bool, AllocError>
     requires { depth_of (seen_core heap.now producer.now) ≤ 2048 }
-    ensures { IfOk result (λ b. b ≡ names_hold (seen_world heap.now world.now) (seen_scope scope.now) (seen_outs expected.now) object.0 (numbers names.now) (seen_core heap.now producer.now)) }
+    ensures { IfOk result (λ b. b ≡ names_hold (seen_world heap.now world.now) (seen_scope scope.now) (seen_outs expected.now) stobj.0 (numbers names.now) (seen_core heap.now producer.now)) }
 {
-    let others = other_names(alloc, object, names)?;
+    let others = other_names(alloc, stobj, names)?;
     let kinds = name_kinds(alloc, world, heap, others.as_slice())?;
-    if !objects_expected(alloc, kinds.as_slice(), expected)? {
+    if !stobjs_expected(alloc, kinds.as_slice(), expected)? {
         return Ok(false);
     }
-    let inner = local_scope(alloc, world, heap, scope, object)?;
+    let inner = local_scope(alloc, world, heap, scope, stobj)?;
     let given = outs(alloc, world, heap, &inner, producer)?;
     let wanted = name_kinds(alloc, world, heap, names)?;
     Ok(same_kinds(given.as_slice(), wanted.as_slice()))
@@ -66,20 +66,20 @@ fn local_holds(
     heap: &Heap,
     scope: &Scope,
     expected: &[Out],
-    object: SymId,
+    stobj: SymId,
     names: &[SymId],
     producer: &Core,
 ) -> Result<bool, AllocError>
     requires { depth_of (seen_core heap.now producer.now) ≤ 2048 }
-    ensures { IfOk result (λ b. b ≡ with_local_holds (seen_world heap.now world.now) (seen_scope scope.now) (seen_outs expected.now) object.0 (numbers names.now) (seen_core heap.now producer.now)) }
+    ensures { IfOk result (λ b. b ≡ with_local_holds (seen_world heap.now world.now) (seen_scope scope.now) (seen_outs expected.now) stobj.0 (numbers names.now) (seen_core heap.now producer.now)) }
 {
-    if !is_object_name(world, heap, object) {
+    if !is_stobj_name(world, heap, stobj) {
         return Ok(false);
     }
-    if !has(names, object) {
+    if !has(names, stobj) {
         return Ok(false);
     }
-    let holds = gives_names(alloc, world, heap, scope, expected, object, names, producer)?;
+    let holds = gives_names(alloc, world, heap, scope, expected, stobj, names, producer)?;
     Ok(holds)
 }
 
@@ -107,7 +107,7 @@ pub fn check_local(
         Core::MvLet(_, _, _) => Ok(true),
         Core::StobjLet { .. } => Ok(true),
         Core::WithLocal {
-            object,
+            stobj,
             names,
             producer,
             ..
@@ -118,7 +118,7 @@ pub fn check_local(
                 heap,
                 scope,
                 expected,
-                *object,
+                *stobj,
                 names.as_slice(),
                 producer.get(),
             )?;

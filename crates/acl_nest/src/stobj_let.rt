@@ -3,7 +3,7 @@
 ghost use Rattle.std.specs.Prelude.{◌≡◌, ◌∷◌, ◌||◌, not, IfOk};
 ghost use Rattle.std.specs.List.{list_any, list_all};
 ghost use Rattle.model_terms.specs.Cores as cores;
-ghost use Rattle.model_terms.specs.Classes.{is_object_name, has};
+ghost use Rattle.model_terms.specs.Classes.{is_stobj_name, has};
 ghost use Rattle.model_terms.specs.Nested.{are_vars, parent_expected, children_hold, stobj_let_holds};
 ghost use Rattle.model_terms.specs.Rules.{s13_fails};
 ghost use Rattle.acl_terms.specs.Forms.{numbers, bound_names, seen_core, seen_bound, CoreLies};
@@ -15,25 +15,25 @@ use crate::bindings::{BoundChild, bound_children};
 use crate::children::{bind_twice, have_indices, have_names, have_parent};
 use acl_base::SymId;
 use acl_heap::Heap;
-use acl_outputs::{has, is_object_name, names_of, repeats, stobjs};
+use acl_outputs::{has, is_stobj_name, names_of, repeats, stobjs};
 use acl_terms::{Core, Out, Scope};
 use acl_worlds::World;
 use std::alloc::{AllocError, Global};
 
 /// Whether a variable is a bound child or the name of no object.
 fn is_var(world: &World, heap: &Heap, children: &[SymId], name: SymId) -> bool
-    ensures { result ≡ (has (numbers children.now) name.0 || not (is_object_name (seen_world heap.now world.now) name.0)) }
+    ensures { result ≡ (has (numbers children.now) name.0 || not (is_stobj_name (seen_world heap.now world.now) name.0)) }
 {
     if has(children, name) {
         true
     } else {
-        !is_object_name(world, heap, name)
+        !is_stobj_name(world, heap, name)
     }
 }
 
 #[tactic(auto, using(crate::proofs::VarLemmas::vars_step, crate::proofs::VarLemmas::vars_end))]
 fn all_vars(world: &World, heap: &Heap, children: &[SymId], vars: &[SymId]) -> bool
-    ensures { result ≡ list_all (λ x. has (numbers children.now) x || not (is_object_name (seen_world heap.now world.now) x)) (numbers vars.now) }
+    ensures { result ≡ list_all (λ x. has (numbers children.now) x || not (is_stobj_name (seen_world heap.now world.now) x)) (numbers vars.now) }
 {
     for name in vars {
         if !is_var(world, heap, children, *name) {

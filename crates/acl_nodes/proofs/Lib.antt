@@ -7,3 +7,4 @@ pub mod PushLemmas
 pub mod MakingLemmas
 pub mod SeenLemmas
 pub mod NoteLemmas
+pub mod MovedLemmas

@@ -4,7 +4,7 @@
 ghost use Rattle.acl_nodes.specs.Seen.{StandFor};
 
 /// Where each field of a node's own shows one list, the list at a node's place is the one that the node stands for, through its children.
-#[tactic(auto, using(crate::proofs::SeenLemmas::stand_for, crate::proofs::NoteLemmas::write_remembered, crate::proofs::CutLemmas::cut_holds, crate::proofs::ExtendLemmas::extended_part, crate::proofs::MakingLemmas::created, crate::proofs::FieldLemmas::part_written))]
+#[tactic(auto, using(crate::proofs::SeenLemmas::stand_for, crate::proofs::NoteLemmas::write_remembered, crate::proofs::CutLemmas::cut_holds, crate::proofs::MovedLemmas::cut_remembered, crate::proofs::ExtendLemmas::extended_part, crate::proofs::MakingLemmas::created, crate::proofs::FieldLemmas::part_written))]
 pub fn nodes_stand<O>()
     ensures { StandFor O }
 {}

@@ -8,19 +8,19 @@ use Rattle.model_terms.specs.Cores as cores
 use Rattle.model_terms.specs.Worlds as worlds
 use Rattle.model_terms.specs.Worlds.{definition}
 use Rattle.model_terms.specs.Classes.{stobjs, all_congruent, repeats, renamed, instance_of}
-use Rattle.model_terms.specs.Outputs.{Known, object_actuals, all_there, call_outs, signature_in, signature_of}
+use Rattle.model_terms.specs.Outputs.{Known, stobj_actuals, all_there, call_outs, signature_in, signature_of}
 
 module _ (w : worlds.World) (s : worlds.Signature) (actuals : cores.Cores) where
   -- another form stands in an object position
-  pub call_other : None ≡ all_there (object_actuals s.ins actuals) → s.outs ≡ call_outs w s actuals
+  pub call_other : None ≡ all_there (stobj_actuals s.ins actuals) → s.outs ≡ call_outs w s actuals
   call_other h = ap (λ o. option_map_or (λ (i : worlds.Signature). i.outs) (option_and_then (instance_of w s) o) s.outs) h
 
-  pub call_apart : (names : List ℕ) → Some names ≡ all_there (object_actuals s.ins actuals) → None ≡ instance_of w s names → s.outs ≡ call_outs w s actuals
+  pub call_apart : (names : List ℕ) → Some names ≡ all_there (stobj_actuals s.ins actuals) → None ≡ instance_of w s names → s.outs ≡ call_outs w s actuals
   call_apart names h i =
       ap (λ o. option_map_or (λ (i : worlds.Signature). i.outs) o s.outs) i
       ∙ ap (λ o. option_map_or (λ (i : worlds.Signature). i.outs) (option_and_then (instance_of w s) o) s.outs) h
 
-  pub call_instance : (names : List ℕ) (j : worlds.Signature) → Some names ≡ all_there (object_actuals s.ins actuals) → Some j ≡ instance_of w s names → j.outs ≡ call_outs w s actuals
+  pub call_instance : (names : List ℕ) (j : worlds.Signature) → Some names ≡ all_there (stobj_actuals s.ins actuals) → Some j ≡ instance_of w s names → j.outs ≡ call_outs w s actuals
   call_instance names j h i =
       ap (λ o. option_map_or (λ (i : worlds.Signature). i.outs) o s.outs) i
       ∙ ap (λ o. option_map_or (λ (i : worlds.Signature). i.outs) (option_and_then (instance_of w s) o) s.outs) h
@@ -35,7 +35,7 @@ module _ (w : worlds.World) (s : worlds.Signature) (actuals : cores.Cores) where
   there_plain (Some names) h = instance_plain names (all_congruent w (stobjs s.ins) names && not (repeats names)) h
 
   outs_plain : s.outs ≡ worlds.Ordinary ∷ [] → call_outs w s actuals ≡ worlds.Ordinary ∷ []
-  outs_plain h = there_plain (all_there (object_actuals s.ins actuals)) h
+  outs_plain h = there_plain (all_there (stobj_actuals s.ins actuals)) h
 
 -- of a primitive
 pub call_plain : (w : worlds.World) (n : ℕ) (actuals : cores.Cores) → call_outs w (record { ins = replicate n worlds.Ordinary; outs = worlds.Ordinary ∷ [] }) actuals ≡ worlds.Ordinary ∷ []

@@ -66,12 +66,12 @@ module _ (w : worlds.World) (known : Known) (scope : worlds.Scope) (h : Objects)
   pub out_stobj_let : (bs : List (SymId × Core)) (vars : List SymId) (p c : Core) → outputs w known scope (seen_core h (views.StobjLet bs vars p c)) ≡ outputs w known (consumer_scope w scope (bound_names bs) (numbers vars)) (seen_core h c)
   out_stobj_let bs vars p c = ap (outputs w known scope) (seen_stobj_let h bs vars p c) ∙ of_stobj_let bs vars p c
 
-  of_with_local : (object : SymId) (names : List SymId) (a b : Core) → outputs w known scope (cores.WithLocal object.0 (numbers names) (seen_core h a) (seen_core h b)) ≡ outputs w known (body_scope w scope object.0 (numbers names)) (seen_core h b)
+  of_with_local : (stobj : SymId) (names : List SymId) (a b : Core) → outputs w known scope (cores.WithLocal stobj.0 (numbers names) (seen_core h a) (seen_core h b)) ≡ outputs w known (body_scope w scope stobj.0 (numbers names)) (seen_core h b)
   unfolding outputs
-  of_with_local object names a b = refl
+  of_with_local stobj names a b = refl
 
-  pub out_with_local : (object : SymId) (names : List SymId) (a b : Core) → outputs w known scope (seen_core h (views.WithLocal object names a b)) ≡ outputs w known (body_scope w scope object.0 (numbers names)) (seen_core h b)
-  out_with_local object names a b = ap (outputs w known scope) (seen_with_local h object names a b) ∙ of_with_local object names a b
+  pub out_with_local : (stobj : SymId) (names : List SymId) (a b : Core) → outputs w known scope (seen_core h (views.WithLocal stobj names a b)) ≡ outputs w known (body_scope w scope stobj.0 (numbers names)) (seen_core h b)
+  out_with_local stobj names a b = ap (outputs w known scope) (seen_with_local h stobj names a b) ∙ of_with_local stobj names a b
 
   of_must_be_equal : (a b : Core) → outputs w known scope (cores.MustBeEqual (seen_core h a) (seen_core h b)) ≡ outputs w known scope (seen_core h a)
   unfolding outputs
@@ -109,8 +109,8 @@ module _ (h : Objects) (n : ℕ) where
   pub stobj_let_depth : (bs : List (SymId × Core)) (vars : List SymId) (p c : Core) → depth_of (seen_core h (views.StobjLet bs vars p c)) ≤ n → depth_of (seen_core h c) ≤ n
   stobj_let_depth bs vars p c l = omega (arith, l, ap depth_of (seen_stobj_let h bs vars p c))
 
-  pub with_local_depth : (object : SymId) (names : List SymId) (a b : Core) → depth_of (seen_core h (views.WithLocal object names a b)) ≤ n → depth_of (seen_core h b) ≤ n
-  with_local_depth object names a b l = omega (arith, l, ap depth_of (seen_with_local h object names a b))
+  pub with_local_depth : (stobj : SymId) (names : List SymId) (a b : Core) → depth_of (seen_core h (views.WithLocal stobj names a b)) ≤ n → depth_of (seen_core h b) ≤ n
+  with_local_depth stobj names a b l = omega (arith, l, ap depth_of (seen_with_local h stobj names a b))
 
   pub must_be_equal_depth : (a b : Core) → depth_of (seen_core h (views.MustBeEqual a b)) ≤ n → depth_of (seen_core h a) ≤ n
   must_be_equal_depth a b l = omega (arith, l, ap depth_of (seen_must_be_equal h a b))

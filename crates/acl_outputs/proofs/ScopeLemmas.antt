@@ -6,7 +6,7 @@ use Rattle.std.proofs.Math.ListN.{drop_of_length-le}
 use Rattle.std.proofs.lemmas.List.{append-nil, map-append}
 use Rattle.acl_base.specs.declared.SymId.{SymId}
 use Rattle.model_terms.specs.Worlds as worlds
-use Rattle.model_terms.specs.Classes.{has, is_object_name}
+use Rattle.model_terms.specs.Classes.{has, is_stobj_name}
 use Rattle.model_terms.specs.Scopes.{entry, binding, without, ordinary_names, other_names, consumer_scope}
 use Rattle.acl_terms.specs.declared.form.Core.{Core}
 use Rattle.acl_terms.specs.declared.signature.Entry.{Entry}
@@ -47,17 +47,17 @@ module _ (w : worlds.World) where
 
   pub ordinary_step : (done : List ℕ) (ns : List SymId) (i : ℕ) (d : SymId) → i < length ns
       → done ++ ordinary_names w (numbers (drop i ns)) ≡ (done ++ ordinary_names w ((get_or ns i d).0 ∷ [])) ++ ordinary_names w (numbers (drop (i + 1) ns))
-  ordinary_step done ns i d l = step (λ (xs : List SymId). ordinary_names w (numbers xs)) (λ x xs. filter_apart (λ x. not (is_object_name w x)) x.0 (numbers xs)) done ns i d l
+  ordinary_step done ns i d l = step (λ (xs : List SymId). ordinary_names w (numbers xs)) (λ x xs. filter_apart (λ x. not (is_stobj_name w x)) x.0 (numbers xs)) done ns i d l
 
   pub ordinary_end : (done : List ℕ) (ns : List SymId) (i : ℕ) → length ns ≤ i → done ++ ordinary_names w (numbers (drop i ns)) ≡ done
   ordinary_end done ns i l = rw (drop_of_length-le ns l) (append-nil done)
 
-pub other_step : (object : ℕ) (done : List ℕ) (ns : List SymId) (i : ℕ) (d : SymId) → i < length ns
-    → done ++ other_names object (numbers (drop i ns)) ≡ (done ++ other_names object ((get_or ns i d).0 ∷ [])) ++ other_names object (numbers (drop (i + 1) ns))
-other_step object done ns i d l = step (λ (xs : List SymId). other_names object (numbers xs)) (λ x xs. filter_apart (λ x. not (nat_eq x object)) x.0 (numbers xs)) done ns i d l
+pub other_step : (stobj : ℕ) (done : List ℕ) (ns : List SymId) (i : ℕ) (d : SymId) → i < length ns
+    → done ++ other_names stobj (numbers (drop i ns)) ≡ (done ++ other_names stobj ((get_or ns i d).0 ∷ [])) ++ other_names stobj (numbers (drop (i + 1) ns))
+other_step stobj done ns i d l = step (λ (xs : List SymId). other_names stobj (numbers xs)) (λ x xs. filter_apart (λ x. not (nat_eq x stobj)) x.0 (numbers xs)) done ns i d l
 
-pub other_end : (object : ℕ) (done : List ℕ) (ns : List SymId) (i : ℕ) → length ns ≤ i → done ++ other_names object (numbers (drop i ns)) ≡ done
-other_end object done ns i l = rw (drop_of_length-le ns l) (append-nil done)
+pub other_end : (stobj : ℕ) (done : List ℕ) (ns : List SymId) (i : ℕ) → length ns ≤ i → done ++ other_names stobj (numbers (drop i ns)) ≡ done
+other_end stobj done ns i l = rw (drop_of_length-le ns l) (append-nil done)
 
 -- ---- entries
 

@@ -12,7 +12,7 @@ ghost use Rattle.acl_worlds.specs.Contents.{seen_world};
 ghost use Rattle.acl_outputs.specs.Known.{seen_known};
 
 use crate::instances::instantiate;
-use crate::parts::{known_signature, object_actuals, part_kinds};
+use crate::parts::{known_signature, part_kinds, stobj_actuals};
 use crate::scopes::{bind, body_scope, consumer_scope, names_of};
 use acl_base::SymId;
 use acl_heap::Heap;
@@ -40,7 +40,7 @@ fn call_outs(
 ) -> Result<Items<Out>, AllocError>
     ensures { IfOk result (λ os. seen_outs os ≡ call_outs (seen_world heap.now world.now) (seen_signature signature.now) (cores.cores (seen_cores heap.now actuals.now))) }
 {
-    match object_actuals(alloc, signature.ins.as_slice(), actuals, heap)? {
+    match stobj_actuals(alloc, signature.ins.as_slice(), actuals, heap)? {
         None => Items::from_slice(alloc, signature.outs.as_slice()),
         Some(names) => match instantiate(alloc, world, heap, signature, names.as_slice())? {
             None => Items::from_slice(alloc, signature.outs.as_slice()),
@@ -172,12 +172,12 @@ fn outputs_in(
             Ok(outs)
         }
         Core::WithLocal {
-            object,
+            stobj,
             names,
             body,
             ..
         } => {
-            let mut inner = body_scope(alloc, world, heap, scope, *object, names.as_slice())?;
+            let mut inner = body_scope(alloc, world, heap, scope, *stobj, names.as_slice())?;
             let outs = outputs_in(alloc, world, heap, known, &mut inner, body.get())?;
             Ok(outs)
         }

@@ -17,7 +17,7 @@ use sqlite_items::Items;
 use std::alloc::{AllocError, Global};
 
 #[tactic(auto, using(crate::proofs::ListLemmas::numbers_push, crate::proofs::ListLemmas::numbers_same))]
-fn put_object(found: &mut Items<SymId>, out: Out) -> Result<(), AllocError>
+fn put_stobj(found: &mut Items<SymId>, out: Out) -> Result<(), AllocError>
     ensures { OnOk result (numbers found.new ≡ numbers found.old ++ stobjs (seen_out out ∷ [])) }
 {
     match out {
@@ -36,7 +36,7 @@ pub fn stobjs(alloc: Global, outs: &[Out]) -> Result<Items<SymId>, AllocError>
 {
     let mut found = Items::new(alloc);
     for out in outs {
-        put_object(&mut found, *out)?;
+        put_stobj(&mut found, *out)?;
     }
     Ok(found)
 }

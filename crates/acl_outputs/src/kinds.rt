@@ -1,7 +1,7 @@
 //! What a world says of the names of stobjs.
 
 ghost use Rattle.std.specs.Prelude.{◌≡◌, Some, None};
-ghost use Rattle.model_terms.specs.Classes.{class_in, class_of, is_object_name, congruent};
+ghost use Rattle.model_terms.specs.Classes.{class_in, class_of, is_stobj_name, congruent};
 ghost use Rattle.model_terms.specs.Scopes.{name_kind};
 ghost use Rattle.acl_terms.specs.Definitions.{seen_definition};
 ghost use Rattle.acl_terms.specs.Signatures.{seen_name, seen_out};
@@ -41,8 +41,8 @@ pub fn class_of(world: &World, heap: &Heap, name: SymId) -> Option<SymId>
 }
 
 /// Whether the name is an object's.
-pub fn is_object_name(world: &World, heap: &Heap, name: SymId) -> bool
-    ensures { result ≡ is_object_name (seen_world heap.now world.now) name.0 }
+pub fn is_stobj_name(world: &World, heap: &Heap, name: SymId) -> bool
+    ensures { result ≡ is_stobj_name (seen_world heap.now world.now) name.0 }
 {
     match class_of(world, heap, name) {
         Some(_) => true,
@@ -67,7 +67,7 @@ pub fn congruent(world: &World, heap: &Heap, a: SymId, b: SymId) -> bool
 pub fn name_kind(world: &World, heap: &Heap, name: SymId) -> Out
     ensures { seen_out result ≡ name_kind (seen_world heap.now world.now) name.0 }
 {
-    if is_object_name(world, heap, name) {
+    if is_stobj_name(world, heap, name) {
         Out::Object(name)
     } else {
         Out::Ordinary

@@ -12,9 +12,9 @@ mod tests;
 
 pub use by_text::outputs;
 pub use instances::{actual_of, all_congruent, instantiate, renamed_out, stobjs};
-pub use kinds::{class_of, congruent, is_object_name, name_kind};
+pub use kinds::{class_of, congruent, is_stobj_name, name_kind};
 pub use lists::{has, repeats};
-pub use parts::{known_signature, object_actuals, part_kinds, variable};
+pub use parts::{known_signature, part_kinds, stobj_actuals, variable};
 pub use scopes::{
     bind, body_scope, consumer_scope, names_of, ordinary_names, other_names, without,
 };

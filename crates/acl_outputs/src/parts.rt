@@ -7,7 +7,7 @@ ghost use Rattle.model_terms.specs.Cores as cores;
 ghost use Rattle.model_terms.specs.Cores.{variable};
 ghost use Rattle.model_terms.specs.Scopes.{kind_of};
 ghost use Rattle.model_terms.specs.Worlds as worlds;
-ghost use Rattle.model_terms.specs.Outputs.{object_actuals, all_there, part_kinds};
+ghost use Rattle.model_terms.specs.Outputs.{stobj_actuals, all_there, part_kinds};
 ghost use Rattle.acl_terms.specs.Forms.{numbers, seen_core, seen_cores};
 ghost use Rattle.acl_terms.specs.Signatures.{seen_out, seen_outs, seen_name, seen_scope, seen_signature};
 ghost use Rattle.acl_outputs.specs.Known.{seen_known, joined};
@@ -45,7 +45,7 @@ fn put_actual(
     heap: &Heap,
     found: &mut Items<SymId>,
 ) -> Result<bool, AllocError>
-    ensures { IfOk result (λ there. (if there then Some (numbers found.new) else None) ≡ joined (numbers found.old) (all_there (object_actuals (seen_out kind ∷ []) (cores.more (seen_core heap.now part.now) cores.none)))) }
+    ensures { IfOk result (λ there. (if there then Some (numbers found.new) else None) ≡ joined (numbers found.old) (all_there (stobj_actuals (seen_out kind ∷ []) (cores.more (seen_core heap.now part.now) cores.none)))) }
 {
     match kind {
         Out::Ordinary => Ok(true),
@@ -61,13 +61,13 @@ fn put_actual(
 
 /// The variables in the object positions of a call. None where another form stands in one.
 #[tactic(auto, using(crate::proofs::PartLemmas::actuals_past, crate::proofs::PartLemmas::actuals_end, crate::proofs::PartLemmas::actuals_start))]
-pub fn object_actuals(
+pub fn stobj_actuals(
     alloc: Global,
     ins: &[Out],
     parts: &[Core],
     heap: &Heap,
 ) -> Result<Option<Items<SymId>>, AllocError>
-    ensures { IfOk result (λ r. option_map numbers r ≡ all_there (object_actuals (seen_outs ins.now) (cores.cores (seen_cores heap.now parts.now)))) }
+    ensures { IfOk result (λ r. option_map numbers r ≡ all_there (stobj_actuals (seen_outs ins.now) (cores.cores (seen_cores heap.now parts.now)))) }
 {
     let mut found = Items::new(alloc);
     for (i, kind) in ins.iter().enumerate() {

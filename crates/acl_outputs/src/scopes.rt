@@ -6,7 +6,7 @@ ghost use Rattle.acl_terms.specs.Forms.{numbers, bound_names};
 ghost use Rattle.acl_terms.specs.Signatures.{seen_entry, seen_scope};
 ghost use Rattle.acl_worlds.specs.Contents.{seen_world};
 
-use crate::kinds::{is_object_name, name_kind};
+use crate::kinds::{is_stobj_name, name_kind};
 use crate::lists::has;
 use acl_base::SymId;
 use acl_heap::Heap;
@@ -87,7 +87,7 @@ fn put_ordinary(
 ) -> Result<(), AllocError>
     ensures { OnOk result (numbers found.new ≡ numbers found.old ++ ordinary_names (seen_world heap.now world.now) (name.0 ∷ [])) }
 {
-    if is_object_name(world, heap, name) {
+    if is_stobj_name(world, heap, name) {
         Ok(())
     } else {
         found.push(name)?;
@@ -113,10 +113,10 @@ pub fn ordinary_names(
 }
 
 #[tactic(auto, using(crate::proofs::ListLemmas::numbers_push, crate::proofs::ListLemmas::numbers_same))]
-fn put_other(found: &mut Items<SymId>, object: SymId, name: SymId) -> Result<(), AllocError>
-    ensures { OnOk result (numbers found.new ≡ numbers found.old ++ other_names object.0 (name.0 ∷ [])) }
+fn put_other(found: &mut Items<SymId>, stobj: SymId, name: SymId) -> Result<(), AllocError>
+    ensures { OnOk result (numbers found.new ≡ numbers found.old ++ other_names stobj.0 (name.0 ∷ [])) }
 {
-    if name.0 == object.0 {
+    if name.0 == stobj.0 {
         Ok(())
     } else {
         found.push(name)?;
@@ -126,16 +126,12 @@ fn put_other(found: &mut Items<SymId>, object: SymId, name: SymId) -> Result<(),
 
 /// The names but for that of the object.
 #[tactic(auto, using(crate::proofs::ScopeLemmas::other_step, crate::proofs::ScopeLemmas::other_end))]
-pub fn other_names(
-    alloc: Global,
-    object: SymId,
-    names: &[SymId],
-) -> Result<Items<SymId>, AllocError>
-    ensures { IfOk result (λ ns. numbers ns ≡ other_names object.0 (numbers names.now)) }
+pub fn other_names(alloc: Global, stobj: SymId, names: &[SymId]) -> Result<Items<SymId>, AllocError>
+    ensures { IfOk result (λ ns. numbers ns ≡ other_names stobj.0 (numbers names.now)) }
 {
     let mut found = Items::new(alloc);
     for name in names {
-        put_other(&mut found, object, *name)?;
+        put_other(&mut found, stobj, *name)?;
     }
     Ok(found)
 }
@@ -164,13 +160,13 @@ pub fn body_scope(
     world: &World,
     heap: &Heap,
     scope: &Scope,
-    object: SymId,
+    stobj: SymId,
     names: &[SymId],
 ) -> Result<Scope, AllocError>
-    ensures { IfOk result (λ s. seen_scope s ≡ body_scope (seen_world heap.now world.now) (seen_scope scope.now) object.0 (numbers names.now)) }
+    ensures { IfOk result (λ s. seen_scope s ≡ body_scope (seen_world heap.now world.now) (seen_scope scope.now) stobj.0 (numbers names.now)) }
 {
-    let mut inner = without(alloc, &[object], scope)?;
-    let others = other_names(alloc, object, names)?;
+    let mut inner = without(alloc, &[stobj], scope)?;
+    let others = other_names(alloc, stobj, names)?;
     bind(&mut inner, world, heap, others.as_slice())?;
     Ok(inner)
 }

@@ -2,6 +2,7 @@
 use Rattle.std.proofs.Common.{◌≡◌, ℕ, zero, suc, ◌<◌, ◌≤◌, ℤ, pos, List, [], ◌∷◌, ◌++◌, map, length, reverse, take, Option, Some, None, refl, sym, ap, ◌∙◌, subst, arith, inl, inr, set, get_or}
 use Rattle.std.specs.Prelude.{◌≢◌, ◌⊎◌, slice_get, option_map, IsSomeAnd, IfSome}
 use Rattle.std.proofs.lemmas.List.{length-map, append-nil, reverse-append}
+use Rattle.model_objects.specs.Object.{Object}
 use Rattle.model_lists.specs.Lists.{StobjList}
 use Rattle.model_eval.specs.PlacesKeeping.{Place, Nowhere, At, below, list_at, with_list_at}
 use Rattle.model_places.specs.Places.{IsPlace}
@@ -15,14 +16,15 @@ use Rattle.acl_nodes.proofs.FieldLemmas.{part_written}
 use Rattle.acl_nodes.proofs.CutLemmas.{list_left, taken_place}
 use Rattle.acl_nodes.proofs.NoteLemmas.{note_remembered, back_remembered, write_remembered}
 use Rattle.acl_base.specs.declared.layout.Kind.{Kind}
-use Rattle.acl_store.specs.Fields.{InRange, Field, One, Many, shown, list_of, integer, IsElement, with_element}
+use Rattle.acl_heap.specs.Objects.{nothing}
+use Rattle.acl_store.specs.Fields.{InRange, Field, One, Many, Any, Anys, shown, list_of, integer, IsElement, with_element, with_held, HasValue}
 use Rattle.acl_store.specs.Parts.{part_of, path_in}
 use Rattle.acl_store.specs.Calls.{Nodes, Holds, place_in, IsInline, IsPut}
 use Rattle.acl_store.specs.Journals.{back, path_noted, own_list, list_noted, note_of, SuitsPart, Suits, put_part, put_back, Fit, IsNote, Remembers, MayBeWritten, Begins, NoteRemembers, StepsBack, Restores, WriteRemembers}
 use Rattle.acl_store.specs.declared.notes.Old.{Old}
 use Rattle.acl_store.specs.declared.notes.OldPart.{OldPart}
-use Rattle.acl_store.specs.declared.notes.OldPart.TheVariants.{Element, Whole}
-use Rattle.acl_store.proofs.StoreLemmas.{read_part, write_part}
+use Rattle.acl_store.specs.declared.notes.OldPart.TheVariants.{Element, Held, Whole}
+use Rattle.acl_store.proofs.StoreLemmas.{read_value, element_value, write_part, write_held}
 
 none_some : {X : Type 0} {x : X} → None ≡ Some x → ⊥
 none_some e = cc
@@ -37,7 +39,7 @@ set_got [] i x e = refl
 set_got (y ∷ xs) zero x e = ap (λ (z : _). z ∷ xs) (sym (some_same e))
 set_got (y ∷ xs) (suc i) x e = ap (λ (zs : List _). y ∷ zs) (set_got xs i x e)
 
-with_again : (ns : Nodes) (k f : ℕ) (p : Part Field) → part_at ns k f ≡ Some p → with_part k f p ns ≡ ns
+pub with_again : (ns : Nodes) (k f : ℕ) (p : Part Field) → part_at ns k f ≡ Some p → with_part k f p ns ≡ ns
 with_again [] k f p e = refl
 with_again (n ∷ ns) zero f p e = ap (λ (ps : List (Part Field)). record n { parts = ps } ∷ ns) (set_got n.parts f p e)
 with_again (n ∷ ns) (suc k) f p e = ap (λ (ms : Nodes). n ∷ ms) (with_again ns k f p e)
@@ -49,10 +51,10 @@ set_same [] i v e h = refl
 set_same (x ∷ vs) zero v e h = ap (λ (z : ℤ). z ∷ vs) e
 set_same (x ∷ vs) (suc i) v e h = let fewer : i < length vs = omega (arith, h) in ap (λ (zs : List ℤ). x ∷ zs) (set_same vs i v e fewer)
 
-put_is : (ns : Nodes) (o : Old) (p : Part Field) → part_at ns o.node o.field ≡ Some p → put_back o ns ≡ with_part o.node o.field (back o.part p) ns
+pub put_is : (ns : Nodes) (o : Old) (p : Part Field) → part_at ns o.node o.field ≡ Some p → put_back o ns ≡ with_part o.node o.field (back o.part p) ns
 put_is ns o p e = ap (λ (r : Option (Part Field)). put_part r o ns) e
 
-pub note_keeps : (ns : Nodes) (olds : List Old) (first i : ℕ) (o : Old) (p : Part Field) → part_at ns o.node o.field ≡ Some p → IsElement p i → IsNote o.part p i → o.node < first → NoteRemembers ns olds first (o ∷ olds)
+pub note_keeps : (ns : Nodes) (olds : List Old) (first i : ℕ) (o : Old) (p : Part Field) → part_at ns o.node o.field ≡ Some p → HasValue p i → IsNote o.part p i → o.node < first → NoteRemembers ns olds first (o ∷ olds)
 unfolding NoteRemembers
 note_keeps ns olds first i o p at is n w kept before r = record {
   holds = r.holds;
@@ -61,7 +63,7 @@ note_keeps ns olds first i o p at is n w kept before r = record {
     subst (λ (ms : Nodes). Fit ms olds) (sym (put_is ns o p at ∙ (ap (λ (q : Part Field). with_part o.node o.field q ns) n.same ∙ with_again ns o.node o.field p at))) r.fit,
   );
   notes = note_remembered (map note_of olds) first (length ns) kept before (note_of o) r.notes
-      (ap (λ (path : List ℕ). list_at kept.roots (below (place_at kept.places o.node) path)) (n.path o.field) ∙ (read_part ns kept r.holds o.node o.field i p at is ∙ sym n.list)) w;
+      (ap (λ (path : List ℕ). list_at kept.roots (below (place_at kept.places o.node) path)) (n.path o.field) ∙ (read_value ns kept r.holds o.node o.field i p at is ∙ sym n.list)) w;
 }
 
 -- ---- putting back
@@ -79,8 +81,16 @@ back_holds : (ns : Nodes) (kept : Kept) (h : Holds ns kept) (k f : ℕ) (q : Old
     → Holds (with_part k f (back q p) ns) (record kept { roots = with_list_at (below (place_at kept.places k) (path_noted q f)) (list_noted q) kept.roots })
 back_holds ns kept h k f (Element i v) (Own (One w)) at s = absurd s.0
 back_holds ns kept h k f (Element i v) (Own (Many kind x vs)) at s = write_part ns kept h k f i v (Own (Many kind x vs)) at s.1
+back_holds ns kept h k f (Element i v) (Own (Any o)) at s = absurd s.0
+back_holds ns kept h k f (Element i v) (Own (Anys x os)) at s = absurd s.1
 back_holds ns kept h k f (Element i v) (Child c) at s = absurd s.0
 back_holds ns kept h k f (Element i v) (Children cs) at s = absurd s.0
+back_holds ns kept h k f (Held i v) (Own (One w)) at s = absurd s.0
+back_holds ns kept h k f (Held i v) (Own (Many kind x vs)) at s = absurd s.1
+back_holds ns kept h k f (Held i v) (Own (Any o)) at s = absurd s.0
+back_holds ns kept h k f (Held i v) (Own (Anys x os)) at s = write_held ns kept h k f i v (Own (Anys x os)) at s.1
+back_holds ns kept h k f (Held i v) (Child c) at s = absurd s.0
+back_holds ns kept h k f (Held i v) (Children cs) at s = absurd s.0
 back_holds ns kept h k f (Whole s) p at t = whole_holds ns kept h k f p (part_of s) at t.0 t.1
 
 pub step_back : (ns : Nodes) (o : Old) (os : List Old) → Suits ns o → StepsBack ns (o ∷ os) (put_back o ns) os
@@ -151,59 +161,82 @@ begins ns olds first e g kept h = subst (λ (os : List Old). Remembers ns os fir
 
 -- ---- forms
 
--- a part with zeros for its integers
-abbrev form : Part Field → Part Field
+-- a part with zeros for its values
+abbrev pub form : Part Field → Part Field
 form (Own (One v)) = Own (One (pos 0))
 form (Own (Many kind x vs)) = Own (Many kind x (map (λ v. pos 0) vs))
+form (Own (Any o)) = Own (Any nothing)
+form (Own (Anys x os)) = Own (Anys x (map (λ o. nothing) os))
 form (Child c) = Child c
 form (Children cs) = Children cs
 
 to_form : (q : OldPart) (p : Part Field) → SuitsPart q p → SuitsPart q (form p)
 to_form (Element i v) (Own (One w)) s = absurd s.0
 to_form (Element i v) (Own (Many kind x vs)) s = (s.0, subst (λ (n : ℕ). i < n) (sym (length-map vs (λ v. pos 0))) s.1, s.2)
+to_form (Element i v) (Own (Any o)) s = s
+to_form (Element i v) (Own (Anys x os)) s = s
 to_form (Element i v) (Child c) s = s
 to_form (Element i v) (Children cs) s = s
-to_form (Whole t) (Own (One w)) s = s
-to_form (Whole t) (Own (Many kind x vs)) s = s
+to_form (Held i v) (Own (One w)) s = s
+to_form (Held i v) (Own (Many kind x vs)) s = s
+to_form (Held i v) (Own (Any o)) s = s
+to_form (Held i v) (Own (Anys x os)) s = (s.0, subst (λ (n : ℕ). i < n) (sym (length-map os (λ o. nothing))) s.1)
+to_form (Held i v) (Child c) s = s
+to_form (Held i v) (Children cs) s = s
+to_form (Whole t) (Own o) s = (own_form o, s.1)
+  where
+    own_form : (o : Field) → IsOwn (form (Own o))
+    own_form (One w) = tt
+    own_form (Many kind x vs) = tt
+    own_form (Any x) = tt
+    own_form (Anys x os) = tt
 to_form (Whole t) (Child c) s = s
 to_form (Whole t) (Children cs) s = s
 
 from_form : (q : OldPart) (p : Part Field) → SuitsPart q (form p) → SuitsPart q p
 from_form (Element i v) (Own (One w)) s = absurd s.0
 from_form (Element i v) (Own (Many kind x vs)) s = (s.0, subst (λ (n : ℕ). i < n) (length-map vs (λ v. pos 0)) s.1, s.2)
+from_form (Element i v) (Own (Any o)) s = s
+from_form (Element i v) (Own (Anys x os)) s = s
 from_form (Element i v) (Child c) s = s
 from_form (Element i v) (Children cs) s = s
-from_form (Whole t) (Own (One w)) s = s
-from_form (Whole t) (Own (Many kind x vs)) s = s
+from_form (Held i v) (Own (One w)) s = s
+from_form (Held i v) (Own (Many kind x vs)) s = s
+from_form (Held i v) (Own (Any o)) s = s
+from_form (Held i v) (Own (Anys x os)) s = (s.0, subst (λ (n : ℕ). i < n) (length-map os (λ o. nothing)) s.1)
+from_form (Held i v) (Child c) s = s
+from_form (Held i v) (Children cs) s = s
+from_form (Whole t) (Own o) s = (tt, s.1)
 from_form (Whole t) (Child c) s = s
 from_form (Whole t) (Children cs) s = s
 
-zeros_set : (vs : List ℤ) (i : ℕ) (v : ℤ) → map (λ w. pos 0) (set vs i v) ≡ map (λ w. pos 0) vs
-zeros_set [] i v = refl
-zeros_set (x ∷ vs) zero v = refl
-zeros_set (x ∷ vs) (suc i) v = ap (λ (ws : List ℤ). pos 0 ∷ ws) (zeros_set vs i v)
+same_set : {X Y : Type 0} (z : Y) (xs : List X) (i : ℕ) (x : X) → map (λ w. z) (set xs i x) ≡ map (λ w. z) xs
+same_set z [] i x = refl
+same_set z (y ∷ xs) zero x = refl
+same_set z (y ∷ xs) (suc i) x = ap (λ (ws : List _). z ∷ ws) (same_set z xs i x)
 
-zeros_twice : (vs : List ℤ) → map (λ w. pos 0) (map (λ w. pos 0) vs) ≡ map (λ w. pos 0) vs
-zeros_twice [] = refl
-zeros_twice (x ∷ vs) = ap (λ (ws : List ℤ). pos 0 ∷ ws) (zeros_twice vs)
-
-element_form : (p : Part Field) (i : ℕ) (v : ℤ) → form (with_element p i v) ≡ form p
+pub element_form : (p : Part Field) (i : ℕ) (v : ℤ) → form (with_element p i v) ≡ form p
 element_form (Own (One w)) i v = refl
-element_form (Own (Many kind x vs)) i v = ap (λ (ws : List ℤ). Own (Many kind x ws)) (zeros_set vs i v)
+element_form (Own (Many kind x vs)) i v = ap (λ (ws : List ℤ). Own (Many kind x ws)) (same_set (pos 0) vs i v)
+element_form (Own (Any o)) i v = refl
+element_form (Own (Anys x os)) i v = refl
 element_form (Child c) i v = refl
 element_form (Children cs) i v = refl
 
-form_twice : (p : Part Field) → form (form p) ≡ form p
-form_twice (Own (One w)) = refl
-form_twice (Own (Many kind x vs)) = ap (λ (ws : List ℤ). Own (Many kind x ws)) (zeros_twice vs)
-form_twice (Child c) = refl
-form_twice (Children cs) = refl
+pub held_form : (p : Part Field) (i : ℕ) (v : Object ℕ) → form (with_held p i v) ≡ form p
+held_form (Own (One w)) i v = refl
+held_form (Own (Many kind x vs)) i v = refl
+held_form (Own (Any o)) i v = refl
+held_form (Own (Anys x os)) i v = ap (λ (ws : List (Object ℕ)). Own (Anys x ws)) (same_set nothing os i v)
+held_form (Child c) i v = refl
+held_form (Children cs) i v = refl
 
 back_form : (q : OldPart) (p r : Part Field) → form r ≡ form p → form (back q r) ≡ form (back q p)
 back_form (Element i v) p r e = element_form r i v ∙ (e ∙ sym (element_form p i v))
+back_form (Held i v) p r e = held_form r i v ∙ (e ∙ sym (held_form p i v))
 back_form (Whole s) p r e = refl
 
-abbrev Alike : ℕ → Nodes → Nodes → Type 0
+abbrev pub Alike : ℕ → Nodes → Nodes → Type 0
 Alike first ns after = (k f : ℕ) → k < first → option_map form (part_at after k f) ≡ option_map form (part_at ns k f)
 
 suits_alike : (q : OldPart) (r t : Option (Part Field)) → option_map form t ≡ option_map form r → IsSomeAnd r (SuitsPart q) → IsSomeAnd t (SuitsPart q)
@@ -236,7 +269,7 @@ backs_alike first ns after o w s a = by (part_at ns o.node o.field) (part_at aft
     by (Some p) None at to s e = absurd (none_some e)
     by (Some p) (Some u) at to s e = rw at (rw to (put_alike first ns after o.node o.field p u (back o.part p) (back o.part u) at to (back_form o.part p u (some_same e)) a))
 
-fit_alike : (first : ℕ) (os : List Old) (ns after : Nodes) → ((n : Note) → Among n (map note_of os) → n.node < first) → Alike first ns after → Fit ns os → Fit after os
+pub fit_alike : (first : ℕ) (os : List Old) (ns after : Nodes) → ((n : Note) → Among n (map note_of os) → n.node < first) → Alike first ns after → Fit ns os → Fit after os
 fit_alike first [] ns after w a f = tt
 fit_alike first (o ∷ os) ns after w a f = (
   suits_alike o.part (part_at ns o.node o.field) (part_at after o.node o.field) (a o.node o.field (w (note_of o) (inl refl))) f.0,
@@ -245,7 +278,7 @@ fit_alike first (o ∷ os) ns after w a f = (
 
 -- ---- a write
 
-covered : (olds : List Old) (first n count : ℕ) (path : List ℕ) (kept : Kept) → n < count → MayBeWritten olds first n path
+pub covered : (olds : List Old) (first n count : ℕ) (path : List ℕ) (kept : Kept) → n < count → MayBeWritten olds first n path
     → IsCovered kept.places (map note_of olds) (below (place_at kept.places n) path) ⊎ ((first ≤ n) × (n < count))
 covered olds first n count path kept w (inr l) = inr (l, w)
 covered olds first n count path kept w (inl m) = inl (record {
@@ -255,20 +288,21 @@ covered olds first n count path kept w (inl m) = inl (record {
   is = ap (below (place_at kept.places n)) m.3.1 ∙ (sym (below_both (place_at kept.places n) m.0.path m.3.0) ∙ ap (λ (k : ℕ). below (below (place_at kept.places k) m.0.path) m.3.0) (sym m.2));
 })
 
-write_keeps : (ns after : Nodes) (olds : List Old) (first n f i : ℕ) (v : ℤ) (p : Part Field) → part_at ns n f ≡ Some p → IsElement p i → after ≡ with_part n f (with_element p i v) ns
-    → (kept before : Kept) → Remembers ns olds first kept before → MayBeWritten olds first n (path_in p f i)
-    → Remembers after olds first (record kept { roots = with_list_at (place_in kept p n f i) (integer v) kept.roots }) before
-write_keeps ns after olds first n f i v p at is e kept before r may = subst (λ (ms : Nodes). Remembers ms olds first (record kept { roots = with_list_at (place_in kept p n f i) (integer v) kept.roots }) before) (sym e) (record {
-  holds = write_part ns kept r.holds n f i v p at is;
-  fit = fit_alike first olds ns (with_part n f (with_element p i v) ns) r.notes.early alike r.fit;
-  notes = subst (λ (m : ℕ). notes.Remembers (map note_of olds) first m (record kept { roots = with_list_at (place_in kept p n f i) (integer v) kept.roots }) before)
-      (sym (with_changed ns n f p (with_element p i v) at).counted)
-      (write_remembered (map note_of olds) first (length ns) n (path_in p f i) (integer v) kept before r.notes (covered olds first n (length ns) (path_in p f i) kept (part_within ns n f p at) may));
+-- a part of the same form, which holds with another list at a path
+pub write_keeps : (ns after : Nodes) (olds : List Old) (first n f : ℕ) (path : List ℕ) (x : StobjList ℕ) (p new : Part Field) → part_at ns n f ≡ Some p → form new ≡ form p → after ≡ with_part n f new ns
+    → (kept before : Kept) → Holds (with_part n f new ns) (record kept { roots = with_list_at (below (place_at kept.places n) path) x kept.roots }) → Remembers ns olds first kept before → MayBeWritten olds first n path
+    → Remembers after olds first (record kept { roots = with_list_at (below (place_at kept.places n) path) x kept.roots }) before
+write_keeps ns after olds first n f path x p new at same e kept before h r may = subst (λ (ms : Nodes). Remembers ms olds first (record kept { roots = with_list_at (below (place_at kept.places n) path) x kept.roots }) before) (sym e) (record {
+  holds = h;
+  fit = fit_alike first olds ns (with_part n f new ns) r.notes.early alike r.fit;
+  notes = subst (λ (m : ℕ). notes.Remembers (map note_of olds) first m (record kept { roots = with_list_at (below (place_at kept.places n) path) x kept.roots }) before)
+      (sym (with_changed ns n f p new at).counted)
+      (write_remembered (map note_of olds) first (length ns) n path x kept before r.notes (covered olds first n (length ns) path kept (part_within ns n f p at) may));
 })
   where
-    alike : Alike first ns (with_part n f (with_element p i v) ns)
-    alike k g w = subst (λ (ms : Nodes). option_map form (part_at (with_part n f (with_element p i v) ns) k g) ≡ option_map form (part_at ms k g)) (with_again ns n f p at)
-        (put_alike first ns ns n f p p p (with_element p i v) at at (element_form p i v) (λ j h u. refl) k g w)
+    alike : Alike first ns (with_part n f new ns)
+    alike k g w = subst (λ (ms : Nodes). option_map form (part_at (with_part n f new ns) k g) ≡ option_map form (part_at ms k g)) (with_again ns n f p at)
+        (put_alike first ns ns n f p p p new at at same (λ j h u. refl) k g w)
 
 pub writes_keep : (ns after : Nodes) (olds : List Old) (first n f i : ℕ) (v : ℤ) → IsInline ns n f i → IsPut ns n f i v after → WriteRemembers ns olds first n f i v after
 unfolding WriteRemembers
@@ -277,7 +311,7 @@ writes_keep ns after olds first n f i v p q kept before r = by (part_at ns n f) 
     by : (o : Option (Part Field)) → part_at ns n f ≡ o → IsSomeAnd o (λ s. IsElement s i) → IfSome o (λ s. after ≡ with_part n f (with_element s i v) ns)
         → IfSome o (λ s. MayBeWritten olds first n (path_in s f i) → Remembers after olds first (record kept { roots = with_list_at (place_in kept s n f i) (integer v) kept.roots }) before)
     by None at p q = absurd p
-    by (Some s) at p q = λ may. write_keeps ns after olds first n f i v s at p q kept before r may
+    by (Some s) at p q = λ may. write_keeps ns after olds first n f (path_in s f i) (integer v) s (with_element s i v) at (element_form s i v) q kept before (write_part ns kept r.holds n f i v s at p) r may
 
 -- ---- notes of integers
 
@@ -294,7 +328,7 @@ element_note kind x v w vs i h d e r = subst (λ (u : ℤ). IsNote (Element i u)
 pub restores_all : (first : ℕ) (ns after : Nodes) (olds items : List Old) → items ≡ [] → StepsBack ns olds after (reverse items) → Restores ns olds first after
 restores_all first ns after olds items e s = restores first ns after olds (reverse items) (ap reverse e) s
 
-newest_is : (olds rest : List Old) (o : Old) → olds ≡ rest ++ o ∷ [] → reverse olds ≡ o ∷ reverse rest
+pub newest_is : (olds rest : List Old) (o : Old) → olds ≡ rest ++ o ∷ [] → reverse olds ≡ o ∷ reverse rest
 newest_is olds rest o e = ap reverse e ∙ reverse-append rest (o ∷ [])
 
 pub newest_fits : (ns : Nodes) (olds rest : List Old) (o : Old) → olds ≡ rest ++ o ∷ [] → Fit ns (reverse olds) → Suits ns o
@@ -326,7 +360,7 @@ notes_keep ns olds news first n f i o e a b p q w =
 
     by : (r : Option (Part Field)) → part_at ns o.node o.field ≡ r → IsSomeAnd r (λ s. IsElement s i) → IfSome r (λ s. IsNote o.part s i) → NoteRemembers ns (reverse olds) first (o ∷ reverse olds)
     by None at p q = absurd p
-    by (Some s) at p q = note_keeps ns (reverse olds) first i o s at p q (subst (λ (k : ℕ). k < first) (sym a) w)
+    by (Some s) at p q = note_keeps ns (reverse olds) first i o s at (element_value s i p).0 q (subst (λ (k : ℕ). k < first) (sym a) w)
 
 pub may_write : (ns : Nodes) (olds news : List Old) (first n f i : ℕ) (o : Old) → news ≡ olds ++ o ∷ [] → o.node ≡ n → o.field ≡ f → IsInline ns n f i → IfSome (part_at ns n f) (λ p. IsNote o.part p i)
     → IfSome (part_at ns n f) (λ p. MayBeWritten (reverse news) first n (path_in p f i))

@@ -4,3 +4,5 @@ pub mod MakeLemmas
 pub mod StoreLemmas
 pub mod LawLemmas
 pub mod JournalLemmas
+pub mod KeepLemmas
+pub mod ObjectLemmas

@@ -1,11 +1,12 @@
 -- The nodes of a new object, by its layout.
 use Rattle.std.proofs.Common.{◌≡◌, ℕ, zero, suc, ◌+◌, ◌<◌, ◌≤◌, ℤ, List, [], ◌∷◌, ◌++◌, map, length, replicate, Some, None, refl, sym, ap, ◌∙◌, subst, arith, inl, inr, Bool}
-use Rattle.std.specs.Prelude.{◌⊎◌, ◌^◌, slice_get, option_map}
+use Rattle.std.specs.Prelude.{◌≢◌, ◌⊎◌, ◌^◌, slice_get, option_map}
 use Rattle.std.proofs.lemmas.List.{length-append, length-replicate, length-map, map_push}
 use Rattle.std.proofs.lemmas.Option.{slice_get-map}
 use Rattle.acl_base.specs.declared.layout.Field.{Field}
 use Rattle.acl_base.specs.declared.layout.Field.TheVariants as fields
 use Rattle.acl_base.specs.declared.layout.Kind.{Kind}
+use Rattle.acl_base.specs.declared.layout.Kind.TheVariants.{Byte, I32, I64, General}
 use Rattle.acl_base.specs.declared.layout.Layout.{Layout}
 use Rattle.acl_base.specs.declared.LayoutId.{LayoutId}
 use Rattle.acl_base.specs.declared.Word.{Word}
@@ -19,12 +20,13 @@ use Rattle.acl_nodes.proofs.ExtendLemmas.{extends_self, extends_then, extends_pu
 use Rattle.acl_nodes.proofs.MakingLemmas.{own_part, child_part, children_part, parts_start, parts_step, parts_end}
 use Rattle.acl_nodes.proofs.PushLemmas.{part_one, width_old, width_last, layout_old, layout_last}
 use Rattle.acl_store.specs.Fields as kept
-use Rattle.acl_store.specs.Fields.{One, Many, shown, integer, list_of, IsSmall, number_of}
-use Rattle.acl_store.specs.Layouts.{born, field_in, size_in, IsOlder, Matches, Follow}
+use Rattle.model_objects.specs.Object.{Object}
+use Rattle.acl_store.specs.Fields.{One, Many, Any, Anys, shown, integer, plain, list_of, IsSmall, number_of}
+use Rattle.acl_store.specs.Layouts.{IsInitial, born, field_in, size_in, IsOlder, Matches, Follow}
 use Rattle.acl_store.specs.Parts.{part_of}
 use Rattle.acl_store.specs.Views.{parts_of, node_of, view}
 use Rattle.acl_store.specs.declared.node.Node.{Node as Memory}
-use Rattle.acl_store.specs.Making.{NodeFor, PartFor, AllMatch, PartsFor, ChildrenFor}
+use Rattle.acl_store.specs.Making.{NodeFor, PartFor, AllMatch, PartsFor, ChildrenFor, one_of, many_of}
 
 none_some : {X : Type 0} {x : X} → None ≡ Some x → ⊥
 none_some e = cc
@@ -98,6 +100,15 @@ follow_push layouts id layout mid node g e l a h = record {
       matches_more mid (mid ++ node ∷ []) (length mid) k m.0 part (extends_push mid node) (omega arith) (omega (arith, here)) m.2,
     )
 
+byte_apart : Byte ≢ General
+byte_apart e = cc
+
+int_apart : I32 ≢ General
+int_apart e = cc
+
+long_apart : I64 ≢ General
+long_apart e = cc
+
 -- ---- fields in turn
 
 module _ (h : Objects) (layouts : List Layout) where
@@ -163,24 +174,45 @@ module _ (h : Objects) (layouts : List Layout) where
   small_born (Str n) s = absurd s
   small_born (Cons n) s = absurd s
 
-  pub one_for : (kind : Kind) (w : Word) (nodes : List (Node kept.Field)) (part : Part kept.Field) → IsSmall w → part ≡ Own (One (number_of w)) → PartFor h layouts (fields.Scalar kind w) nodes nodes part
-  one_for kind w nodes part s e = subst (PartFor h layouts (fields.Scalar kind w) nodes nodes) (sym e) (record {
+  one_small : (kind : Kind) (w : Word) (nodes : List (Node kept.Field)) (part : Part kept.Field) → kind ≢ General → IsSmall w → part ≡ Own (One (number_of w)) → PartFor h layouts (fields.Scalar kind w) nodes nodes part
+  one_small kind w nodes part d s e = subst (PartFor h layouts (fields.Scalar kind w) nodes nodes) (sym e) (record {
     grows = extends_self nodes;
     makes = λ lists b. own_part shown (Value (object_of h w)) nodes (One (number_of w)) (small_born w s);
-    follows = λ f. (f, tt);
+    follows = λ f. (f, d);
   })
 
-  replicated : (n : ℕ) (v : ℤ) → replicate n (integer v) ≡ map integer (replicate n v)
-  replicated zero v = refl
-  replicated (suc n) v = ap (λ (ls : List (StobjList ℕ)). integer v ∷ ls) (replicated n v)
+  pub one_for : (kind : Kind) (w : Word) (nodes : List (Node kept.Field)) (part : Part kept.Field) → IsInitial h kind w → part ≡ one_of h kind w → PartFor h layouts (fields.Scalar kind w) nodes nodes part
+  one_for Byte w nodes part s e = one_small Byte w nodes part byte_apart s.0 e
+  one_for I32 w nodes part s e = one_small I32 w nodes part int_apart s.0 e
+  one_for I64 w nodes part s e = one_small I64 w nodes part long_apart s.0 e
+  one_for General w nodes part s e = subst (PartFor h layouts (fields.Scalar General w) nodes nodes) (sym e) (record {
+    grows = extends_self nodes;
+    makes = λ lists b. own_part shown (Value (object_of h w)) nodes (Any (object_of h w)) refl;
+    follows = λ f. (f, refl);
+  })
 
-  pub many_for : (kind : Kind) (w : Word) (n : ℕ) (r : Bool) (nodes : List (Node kept.Field)) (part : Part kept.Field) → IsSmall w → n < 2 ^ 32 → part ≡ Own (Many kind (number_of w) (replicate n (number_of w)))
-      → PartFor h layouts (fields.Array kind w n r) nodes nodes part
-  many_for kind w n r nodes part s u e = subst (PartFor h layouts (fields.Array kind w n r) nodes nodes) (sym e) (record {
+  replicated : {X : Type 0} (g : X → StobjList ℕ) (n : ℕ) (v : X) → replicate n (g v) ≡ map g (replicate n v)
+  replicated g zero v = refl
+  replicated g (suc n) v = ap (λ (ls : List (StobjList ℕ)). g v ∷ ls) (replicated g n v)
+
+  many_small : (kind : Kind) (w : Word) (n : ℕ) (r : Bool) (nodes : List (Node kept.Field)) (part : Part kept.Field) → kind ≢ General → IsSmall w → n < 2 ^ 32
+      → part ≡ Own (Many kind (number_of w) (replicate n (number_of w))) → PartFor h layouts (fields.Array kind w n r) nodes nodes part
+  many_small kind w n r nodes part d s u e = subst (PartFor h layouts (fields.Array kind w n r) nodes nodes) (sym e) (record {
     grows = extends_self nodes;
     makes = λ lists b. own_part shown (items_of (replicate n (Value (object_of h w)))) nodes (Many kind (number_of w) (replicate n (number_of w)))
-        (ap (λ (l : StobjList ℕ). items_of (replicate n l)) (small_born w s) ∙ ap items_of (replicated n (number_of w)));
-    follows = λ f. (f, (refl, refl, subst (λ (k : ℕ). k < 2 ^ 32) (sym (length-replicate n (number_of w))) u, λ q. length-replicate n (number_of w)));
+        (ap (λ (l : StobjList ℕ). items_of (replicate n l)) (small_born w s) ∙ ap items_of (replicated integer n (number_of w)));
+    follows = λ f. (f, (refl, refl, subst (λ (k : ℕ). k < 2 ^ 32) (sym (length-replicate n (number_of w))) u, λ q. length-replicate n (number_of w), d));
+  })
+
+  pub many_for : (kind : Kind) (w : Word) (n : ℕ) (r : Bool) (nodes : List (Node kept.Field)) (part : Part kept.Field) → IsInitial h kind w → n < 2 ^ 32 → part ≡ many_of h kind w n
+      → PartFor h layouts (fields.Array kind w n r) nodes nodes part
+  many_for Byte w n r nodes part s u e = many_small Byte w n r nodes part byte_apart s.0 u e
+  many_for I32 w n r nodes part s u e = many_small I32 w n r nodes part int_apart s.0 u e
+  many_for I64 w n r nodes part s u e = many_small I64 w n r nodes part long_apart s.0 u e
+  many_for General w n r nodes part s u e = subst (PartFor h layouts (fields.Array General w n r) nodes nodes) (sym e) (record {
+    grows = extends_self nodes;
+    makes = λ lists b. own_part shown (items_of (replicate n (Value (object_of h w)))) nodes (Anys w (replicate n (object_of h w))) (ap items_of (replicated plain n (object_of h w)));
+    follows = λ f. (f, (refl, refl, subst (λ (k : ℕ). k < 2 ^ 32) (sym (length-replicate n (object_of h w))) u, λ q. length-replicate n (object_of h w)));
   })
 
   pub child_for : (id : LayoutId) (nodes after : List (Node kept.Field)) (c : ℕ) → NodeFor h layouts id.0 nodes after c → PartFor h layouts (fields.Child id) nodes after (Child c)

@@ -48,3 +48,9 @@ parts_put ss f old new P g e h k = subst (λ (r : Option Slot). IfSome r (λ s. 
 
 pub parts_kept : (ss : List Slot) (f : ℕ) (old new : Slot) (P : Slot → Type 0) → old ≡ get_or ss f old → IsSomeAnd (slice_get ss f) P → part_of new ≡ part_of old → map part_of (set ss f new) ≡ map part_of ss
 parts_kept ss f old new P e h k = parts_same ss f new old (slot_there ss f old P e h) k
+
+pub part_given : (ss : List Slot) (f : ℕ) (old t : Slot) (P : Slot → Type 0) → old ≡ get_or ss f old → IsSomeAnd (slice_get ss f) P → part_of t ≡ part_of old → IfSome (slice_get ss f) (λ s. part_of t ≡ part_of s)
+part_given ss f old t P e h k = subst (λ (r : Option Slot). IfSome r (λ s. part_of t ≡ part_of s)) (sym (slot_there ss f old P e h)) k
+
+pub slot_given : (ss : List Slot) (f : ℕ) (old : Slot) (P Q : Slot → Type 0) → old ≡ get_or ss f old → IsSomeAnd (slice_get ss f) P → Q old → IfSome (slice_get ss f) Q
+slot_given ss f old P Q e h k = subst (λ (r : Option Slot). IfSome r Q) (sym (slot_there ss f old P e h)) k

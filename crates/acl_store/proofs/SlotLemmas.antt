@@ -1,8 +1,8 @@
 -- Arrays of bytes as arrays of integers.
-use Rattle.std.proofs.Common.{◌≡◌, ℕ, zero, suc, ◌-◌, ℤ, pos, negsuc, nat_abs, ◌≤ℤ◌, List, [], ◌∷◌, ◌++◌, map, length, take, replicate, set, get_or, slice_index_or, refl, sym, ap, ◌∙◌, arith}
+use Rattle.std.proofs.Common.{◌≡◌, ℕ, zero, suc, ◌+◌, ◌-◌, ◌<◌, ◌≤◌, ℤ, pos, negsuc, nat_abs, ◌≤ℤ◌, List, [], ◌∷◌, ◌++◌, map, length, take, drop, replicate, set, get_or, slice_index_or, refl, sym, ap, ◌∙◌, arith, inl, inr}
+use Rattle.std.specs.Prelude.{◌⊎◌}
 use Rattle.std.proofs.lemmas.List.{map-set, length-map}
 use Rattle.std.specs.List.{take-map}
-use Rattle.acl_base.specs.declared.layout.Kind.{Kind}
 use Rattle.acl_base.specs.declared.layout.Kind.TheVariants.{Byte}
 use Rattle.acl_nodes.specs.Nodes.{Own}
 use Rattle.acl_store.specs.Fields.{Many}
@@ -40,8 +40,36 @@ pub whole_byte : (v : ℤ) → pos 0 ≤ℤ v → pos (nat_abs v) ≡ v
 whole_byte (pos n) h = refl
 whole_byte (negsuc n) h = absurd (omega (arith, h))
 
-pub byte_array : (kind : Kind) (v : ℤ) (n x i : ℕ) (vs : List ℕ) → kind ≡ Byte → pos x ≡ v → i ≡ x → vs ≡ replicate n x → Own (Many Byte (pos i) (map pos vs)) ≡ Own (Many kind v (replicate n v))
-byte_array kind v n x i vs k e f g = same (sym k) (ap pos f ∙ e) (ap (map pos) g ∙ (replicated n x ∙ ap (replicate n) e))
+pub byte_array : (v : ℤ) (n x i : ℕ) (vs : List ℕ) → pos x ≡ v → i ≡ x → vs ≡ replicate n x → Own (Many Byte (pos i) (map pos vs)) ≡ Own (Many Byte v (replicate n v))
+byte_array v n x i vs e f g = same (ap pos f ∙ e) (ap (map pos) g ∙ (replicated n x ∙ ap (replicate n) e))
   where
-    same : {w : ℤ} {xs ys : List ℤ} → Byte ≡ kind → w ≡ v → xs ≡ ys → Own (Many Byte w xs) ≡ Own (Many kind v ys)
-    same a b c = cc
+    same : {w : ℤ} {xs ys : List ℤ} → w ≡ v → xs ≡ ys → Own (Many Byte w xs) ≡ Own (Many Byte v ys)
+    same b c = cc
+
+-- ---- arrays copied
+
+copied_suc : {X : Type 0} (xs ys : List X) (i : ℕ) (v : X) → i < length xs → i < length ys → v ≡ get_or xs i v → set (take i xs ++ drop i ys) i v ≡ take (suc i) xs ++ drop (suc i) ys
+copied_suc [] ys i v h k e = absurd (omega (arith, h))
+copied_suc (x ∷ xs) [] i v h k e = absurd (omega (arith, k))
+copied_suc (x ∷ xs) (y ∷ ys) zero v h k e = ap (λ (z : _). z ∷ ys) e
+copied_suc (x ∷ xs) (y ∷ ys) (suc i) v h k e = let l : i < length xs = omega (arith, h) in let m : i < length ys = omega (arith, k) in ap (λ (zs : List _). x ∷ zs) (copied_suc xs ys i v l m e)
+
+-- one more element is copied
+pub copied_step : {X : Type 0} (xs ys : List X) (i : ℕ) (v : X) → i < length xs → i < length ys → v ≡ get_or xs i v → set (take i xs ++ drop i ys) i v ≡ take (i + 1) xs ++ drop (i + 1) ys
+copied_step xs ys i v h k e = let g : suc i ≡ i + 1 = omega arith in copied_suc xs ys i v h k e ∙ ap (λ (n : ℕ). take n xs ++ drop n ys) g
+
+-- the first elements over so many of one
+pub copied_all : {X : Type 0} (xs : List X) (n k : ℕ) (x : X) → k ≤ n → k ≤ length xs → (k ≡ n) ⊎ (k ≡ length xs) → take k xs ++ drop k (replicate n x) ≡ take n xs ++ replicate (n - length xs) x
+copied_all xs zero zero x u v o = let e : 0 - length xs ≡ 0 = omega arith in ap (λ (j : ℕ). replicate j x) (sym e)
+copied_all xs zero (suc k) x u v o = absurd (omega (arith, u))
+copied_all [] (suc n) zero x u v o = let e : suc n - 0 ≡ suc n = omega arith in ap (λ (j : ℕ). replicate j x) (sym e)
+copied_all [] (suc n) (suc k) x u v o = absurd (omega (arith, v))
+copied_all (y ∷ xs) (suc n) zero x u v (inl e) = absurd (omega (arith, e))
+copied_all (y ∷ xs) (suc n) zero x u v (inr e) = absurd (omega (arith, e))
+copied_all (y ∷ xs) (suc n) (suc k) x u v o =
+    let low : k ≤ n = omega (arith, u) in let fits : k ≤ length xs = omega (arith, v) in let e : suc n - suc (length xs) ≡ n - length xs = omega arith in
+    ap (λ (zs : List _). y ∷ zs) (copied_all xs n k x low fits (less o) ∙ ap (λ (j : ℕ). take n xs ++ replicate j x) (sym e))
+  where
+    less : (suc k ≡ suc n) ⊎ (suc k ≡ suc (length xs)) → (k ≡ n) ⊎ (k ≡ length xs)
+    less (inl e) = inl (omega (arith, e))
+    less (inr e) = inr (omega (arith, e))

@@ -9,8 +9,9 @@ use Rattle.acl_base.specs.declared.layout.Kind.{Kind}
 use Rattle.acl_base.specs.declared.layout.Layout.{Layout}
 use Rattle.acl_base.specs.declared.Word.{Word}
 use Rattle.acl_base.specs.declared.Word.TheVariants.{Small}
+use Rattle.model_objects.specs.Object.{Object}
 use Rattle.model_lists.specs.Lists.{StobjList, Item, size, item, with_item, rest_of, resized}
-use Rattle.model_eval.specs.PlacesKeeping.{list_at, with_list_at}
+use Rattle.model_eval.specs.PlacesKeeping.{below, list_at, with_list_at}
 use Rattle.model_places.proofs.PathLemmas.{at_below}
 use Rattle.acl_nodes.specs.Kept.{Kept, place_at, field_at, with_field, items_of}
 use Rattle.acl_nodes.specs.Nodes.{Part, Own, Child, Children, Node, part_at, layout_at, with_part, IsChanged}
@@ -20,16 +21,16 @@ use Rattle.acl_nodes.proofs.NodeLemmas.{nat_or, part_is, part_within, with_chang
 use Rattle.acl_nodes.proofs.FieldLemmas.{field_there, written, part_written}
 use Rattle.acl_nodes.proofs.CutLemmas.{cut_holds, nothing_holds, length_take, taken_part, taken_width, taken_layout}
 use Rattle.acl_nodes.proofs.MakingLemmas.{created}
-use Rattle.acl_store.specs.Fields.{Field, One, Many, shown, integer, IsSmall, number_of, IsElement, IsKept, element, with_element, IsSized, sized, filling, HasLength, length_of}
+use Rattle.acl_store.specs.Fields.{Field, One, Many, Any, Anys, shown, list_of, integer, plain, IsSmall, number_of, IsElement, IsKept, element, with_element, IsHeld, held, with_held, HasValue, value_at, IsSized, IsFilled, sized, filling, HasLength, length_of}
 use Rattle.acl_store.specs.Parts.{part_of, HasChild, child_of}
 use Rattle.acl_store.specs.Layouts.{Matches, Follow, field_in, size_in}
 use Rattle.acl_store.specs.Views.{parts_of, node_of, view}
 use Rattle.acl_store.specs.Calls as calls
-use Rattle.acl_store.specs.Calls.{Nodes, Holds, place_in, IsInline, IsMany, IsParent, Reads, Writes, IsPut, Measures, Lends, Resizes, IsSizedTo, Cuts, Creates, StayTyped, StayTypedIf, IsTyped}
+use Rattle.acl_store.specs.Calls.{Nodes, Holds, place_in, IsGeneral, IsInline, IsMany, IsParent, Reads, ReadsObject, Writes, IsPut, Measures, Lends, Resizes, IsSizedTo, Cuts, Creates, StayTyped, StayTypedIf, IsTyped}
 use Rattle.acl_store.specs.Making.{NodeFor}
 use Rattle.acl_store.specs.declared.node.Node.{Node as Memory}
 use Rattle.acl_store.specs.declared.slot.Slot.{Slot}
-use Rattle.acl_heap.specs.Objects.{Objects}
+use Rattle.acl_heap.specs.Objects.{Objects, object_of, nothing, Lies, Denotes}
 
 none_some : {X : Type 0} {x : X} → None ≡ Some x → ⊥
 none_some e = cc
@@ -37,58 +38,103 @@ none_some e = cc
 some_same : {X : Type 0} {x y : X} → Some x ≡ Some y → x ≡ y
 some_same e = cc
 
--- ---- lists of integers
+-- ---- lists of values
 
-item_of : (vs : List ℤ) (i : ℕ) → i < length vs → item i (items_of (map integer vs)) ≡ integer (get_or vs i (pos 0))
-item_of [] i h = absurd (omega (arith, h))
-item_of (v ∷ vs) zero h = refl
-item_of (v ∷ vs) (suc i) h = let fewer : i < length vs = omega (arith, h) in item_of vs i fewer
+module _ {X : Type 0} (g : X → StobjList ℕ) where
+  item_of : (xs : List X) (d : X) (i : ℕ) → i < length xs → item i (items_of (map g xs)) ≡ g (get_or xs i d)
+  item_of [] d i h = absurd (omega (arith, h))
+  item_of (v ∷ xs) d zero h = refl
+  item_of (v ∷ xs) d (suc i) h = let fewer : i < length xs = omega (arith, h) in item_of xs d i fewer
 
-set_of : (vs : List ℤ) (i : ℕ) (v : ℤ) → with_item i (integer v) (items_of (map integer vs)) ≡ items_of (map integer (set vs i v))
-set_of [] i v = refl
-set_of (x ∷ vs) zero v = refl
-set_of (x ∷ vs) (suc i) v = ap (Item (integer x)) (set_of vs i v)
+  set_of : (xs : List X) (i : ℕ) (v : X) → with_item i (g v) (items_of (map g xs)) ≡ items_of (map g (set xs i v))
+  set_of [] i v = refl
+  set_of (x ∷ xs) zero v = refl
+  set_of (x ∷ xs) (suc i) v = ap (Item (g x)) (set_of xs i v)
 
-size_of : (vs : List ℤ) → size (items_of (map integer vs)) ≡ length vs
-size_of [] = refl
-size_of (v ∷ vs) = let e = size_of vs in omega (arith, e)
+  size_of : (xs : List X) → size (items_of (map g xs)) ≡ length xs
+  size_of [] = refl
+  size_of (v ∷ xs) = let e = size_of xs in omega (arith, e)
 
-sized_of : (m : ℕ) (vs : List ℤ) (fill : ℤ) → items_of (map integer (take m vs ++ replicate (m - length vs) fill)) ≡ resized m (integer fill) (items_of (map integer vs))
-sized_of zero vs fill = let e : 0 - length vs ≡ 0 = omega arith in ap (λ (k : ℕ). items_of (map integer (replicate k fill))) e
-sized_of (suc m) [] fill = let e : suc m - 0 ≡ suc m = omega arith in let g : m - 0 ≡ m = omega arith in
-    ap (λ (k : ℕ). items_of (map integer (replicate k fill))) e
-    ∙ ap (Item (integer fill)) (ap (λ (k : ℕ). items_of (map integer (replicate k fill))) (sym g) ∙ (short m ∙ sized_of m [] fill))
-  where
-    short : (m : ℕ) → items_of (map integer (replicate (m - 0) fill)) ≡ items_of (map integer (take m [] ++ replicate (m - 0) fill))
-    short zero = refl
-    short (suc m) = refl
-sized_of (suc m) (v ∷ vs) fill = let e : suc m - suc (length vs) ≡ m - length vs = omega arith in
-    ap (Item (integer v)) (ap (λ (k : ℕ). items_of (map integer (take m vs ++ replicate k fill))) e ∙ sized_of m vs fill)
+  short : (m : ℕ) (fill : X) → items_of (map g (replicate (m - 0) fill)) ≡ items_of (map g (take m [] ++ replicate (m - 0) fill))
+  short zero fill = refl
+  short (suc m) fill = refl
+
+  sized_of : (m : ℕ) (xs : List X) (fill : X) → items_of (map g (take m xs ++ replicate (m - length xs) fill)) ≡ resized m (g fill) (items_of (map g xs))
+  sized_of zero xs fill = let e : 0 - length xs ≡ 0 = omega arith in ap (λ (k : ℕ). items_of (map g (replicate k fill))) e
+  sized_of (suc m) [] fill = let e : suc m - 0 ≡ suc m = omega arith in let q : m - 0 ≡ m = omega arith in
+      ap (λ (k : ℕ). items_of (map g (replicate k fill))) e
+      ∙ ap (Item (g fill)) (ap (λ (k : ℕ). items_of (map g (replicate k fill))) (sym q) ∙ (short m fill ∙ sized_of m [] fill))
+  sized_of (suc m) (v ∷ xs) fill = let e : suc m - suc (length xs) ≡ m - length xs = omega arith in
+      ap (Item (g v)) (ap (λ (k : ℕ). items_of (map g (take m xs ++ replicate k fill))) e ∙ sized_of m xs fill)
 
 -- ---- one part
 
-pub read_part : (ns : Nodes) (kept : Kept) (h : Holds ns kept) (k f i : ℕ) (p : Part Field) → part_at ns k f ≡ Some p → IsElement p i → list_at kept.roots (place_in kept p k f i) ≡ integer (element p i)
-read_part ns kept h k f i (Own (One w)) at is = h.shows k f (Own (One w)) at
-read_part ns kept h k f i (Own (Many kind x vs)) at is =
+read_items : {X : Type 0} (g : X → StobjList ℕ) (xs : List X) (d : X) (ns : Nodes) (kept : Kept) (h : Holds ns kept) (k f i : ℕ) (o : Field) → part_at ns k f ≡ Some (Own o) → list_of o ≡ items_of (map g xs)
+    → i < length xs → list_at kept.roots (below (place_at kept.places k) (f ∷ i ∷ [])) ≡ g (get_or xs i d)
+read_items g xs d ns kept h k f i o at e is =
     ap (list_at kept.roots) (sym (below_both (place_at kept.places k) (f ∷ []) (i ∷ [])))
-    ∙ (at_below (field_at kept.places k f) (i ∷ []) kept.roots (field_there shown h k f (Own (Many kind x vs)) at)
-    ∙ (ap (item i) (h.shows k f (Own (Many kind x vs)) at) ∙ item_of vs i is))
-read_part ns kept h k f i (Child c) at is = absurd is
-read_part ns kept h k f i (Children cs) at is = absurd is
+    ∙ (at_below (field_at kept.places k f) (i ∷ []) kept.roots (field_there shown h k f (Own o) at)
+    ∙ (ap (item i) (h.shows k f (Own o) at ∙ e) ∙ item_of g xs d i is))
+
+pub read_value : (ns : Nodes) (kept : Kept) (h : Holds ns kept) (k f i : ℕ) (p : Part Field) → part_at ns k f ≡ Some p → HasValue p i → list_at kept.roots (place_in kept p k f i) ≡ value_at p i
+read_value ns kept h k f i (Own (One w)) at is = h.shows k f (Own (One w)) at
+read_value ns kept h k f i (Own (Many kind x vs)) at is = read_items integer vs (pos 0) ns kept h k f i (Many kind x vs) at refl is
+read_value ns kept h k f i (Own (Any o)) at is = h.shows k f (Own (Any o)) at
+read_value ns kept h k f i (Own (Anys x os)) at is = read_items plain os nothing ns kept h k f i (Anys x os) at refl is
+read_value ns kept h k f i (Child c) at is = absurd is
+read_value ns kept h k f i (Children cs) at is = absurd is
+
+pub element_value : (p : Part Field) (i : ℕ) → IsElement p i → HasValue p i × (value_at p i ≡ integer (element p i))
+element_value (Own (One w)) i is = (is, refl)
+element_value (Own (Many kind x vs)) i is = (is, refl)
+element_value (Own (Any o)) i is = absurd is
+element_value (Own (Anys x os)) i is = absurd is
+element_value (Child c) i is = absurd is
+element_value (Children cs) i is = absurd is
+
+pub held_value : (p : Part Field) (i : ℕ) → IsHeld p i → HasValue p i × (value_at p i ≡ plain (held p i))
+held_value (Own (One w)) i is = absurd is
+held_value (Own (Many kind x vs)) i is = absurd is
+held_value (Own (Any o)) i is = (is, refl)
+held_value (Own (Anys x os)) i is = (is, refl)
+held_value (Child c) i is = absurd is
+held_value (Children cs) i is = absurd is
+
+read_part : (ns : Nodes) (kept : Kept) (h : Holds ns kept) (k f i : ℕ) (p : Part Field) → part_at ns k f ≡ Some p → IsElement p i → list_at kept.roots (place_in kept p k f i) ≡ integer (element p i)
+read_part ns kept h k f i p at is = let e = element_value p i is in read_value ns kept h k f i p at e.0 ∙ e.1
+
+write_one : (ns : Nodes) (kept : Kept) (h : Holds ns kept) (k f : ℕ) (x : StobjList ℕ) (old new : Field) → part_at ns k f ≡ Some (Own old) → x ≡ list_of new
+    → Holds (with_part k f (Own new) ns) (record kept { roots = with_list_at (below (place_at kept.places k) (f ∷ [])) x kept.roots })
+write_one ns kept h k f x old new at e = part_written shown ns (with_part k f (Own new) ns) kept h k f [] old new x at (λ l g. e) (with_changed ns k f (Own old) (Own new) at)
+
+write_items : {X : Type 0} (g : X → StobjList ℕ) (xs : List X) (v : X) (ns : Nodes) (kept : Kept) (h : Holds ns kept) (k f i : ℕ) (old new : Field) → part_at ns k f ≡ Some (Own old)
+    → list_of old ≡ items_of (map g xs) → items_of (map g (set xs i v)) ≡ list_of new → Holds (with_part k f (Own new) ns) (record kept { roots = with_list_at (below (place_at kept.places k) (f ∷ i ∷ [])) (g v) kept.roots })
+write_items g xs v ns kept h k f i old new at d e = part_written shown ns (with_part k f (Own new) ns) kept h k f (i ∷ []) old new (g v) at
+    (λ l q. ap (with_item i (g v)) (q ∙ d) ∙ (set_of g xs i v ∙ e)) (with_changed ns k f (Own old) (Own new) at)
 
 pub write_part : (ns : Nodes) (kept : Kept) (h : Holds ns kept) (k f i : ℕ) (v : ℤ) (p : Part Field) → part_at ns k f ≡ Some p → IsElement p i
     → Holds (with_part k f (with_element p i v) ns) (record kept { roots = with_list_at (place_in kept p k f i) (integer v) kept.roots })
-write_part ns kept h k f i v (Own (One w)) at is =
-    part_written shown ns (with_part k f (Own (One v)) ns) kept h k f [] (One w) (One v) (integer v) at (λ l e. refl) (with_changed ns k f (Own (One w)) (Own (One v)) at)
-write_part ns kept h k f i v (Own (Many kind x vs)) at is =
-    part_written shown ns (with_part k f (Own (Many kind x (set vs i v))) ns) kept h k f (i ∷ []) (Many kind x vs) (Many kind x (set vs i v)) (integer v) at
-    (λ l e. ap (with_item i (integer v)) e ∙ set_of vs i v) (with_changed ns k f (Own (Many kind x vs)) (Own (Many kind x (set vs i v))) at)
+write_part ns kept h k f i v (Own (One w)) at is = write_one ns kept h k f (integer v) (One w) (One v) at refl
+write_part ns kept h k f i v (Own (Many kind x vs)) at is = write_items integer vs v ns kept h k f i (Many kind x vs) (Many kind x (set vs i v)) at refl refl
+write_part ns kept h k f i v (Own (Any o)) at is = absurd is
+write_part ns kept h k f i v (Own (Anys x os)) at is = absurd is
 write_part ns kept h k f i v (Child c) at is = absurd is
 write_part ns kept h k f i v (Children cs) at is = absurd is
 
+pub write_held : (ns : Nodes) (kept : Kept) (h : Holds ns kept) (k f i : ℕ) (v : Object ℕ) (p : Part Field) → part_at ns k f ≡ Some p → IsHeld p i
+    → Holds (with_part k f (with_held p i v) ns) (record kept { roots = with_list_at (place_in kept p k f i) (plain v) kept.roots })
+write_held ns kept h k f i v (Own (One w)) at is = absurd is
+write_held ns kept h k f i v (Own (Many kind x vs)) at is = absurd is
+write_held ns kept h k f i v (Own (Any o)) at is = write_one ns kept h k f (plain v) (Any o) (Any v) at refl
+write_held ns kept h k f i v (Own (Anys x os)) at is = write_items plain os v ns kept h k f i (Anys x os) (Anys x (set os i v)) at refl refl
+write_held ns kept h k f i v (Child c) at is = absurd is
+write_held ns kept h k f i v (Children cs) at is = absurd is
+
 measure_part : (ns : Nodes) (kept : Kept) (h : Holds ns kept) (k f : ℕ) (p : Part Field) → part_at ns k f ≡ Some p → HasLength p → size (list_at kept.roots (field_at kept.places k f)) ≡ length_of p
 measure_part ns kept h k f (Own (One w)) at is = absurd is
-measure_part ns kept h k f (Own (Many kind x vs)) at is = ap size (h.shows k f (Own (Many kind x vs)) at) ∙ size_of vs
+measure_part ns kept h k f (Own (Many kind x vs)) at is = ap size (h.shows k f (Own (Many kind x vs)) at) ∙ size_of integer vs
+measure_part ns kept h k f (Own (Any o)) at is = absurd is
+measure_part ns kept h k f (Own (Anys x os)) at is = ap size (h.shows k f (Own (Anys x os)) at) ∙ size_of plain os
 measure_part ns kept h k f (Child c) at is = absurd is
 measure_part ns kept h k f (Children cs) at is = size_spine (length cs) (list_at kept.roots (field_at kept.places k f)) (h.shows k f (Children cs) at).0
 
@@ -99,15 +145,22 @@ lend_part ns kept h k f i c (Child x) at e = let s = h.shows k f (Child x) at in
 lend_part ns kept h k f i c (Children cs) at e = let s = (h.shows k f (Children cs) at).1 i c e in
     (s.1 ∙ below_both (place_at kept.places k) (f ∷ []) (i ∷ []), s.0)
 
-resize_part : (ns : Nodes) (kept : Kept) (h : Holds ns kept) (k f m : ℕ) (p : Part Field) → part_at ns k f ≡ Some p → IsSized p
-    → Holds (with_part k f (sized p m) ns) (with_field k f (resized m (filling p) (list_at kept.roots (field_at kept.places k f))) kept)
-resize_part ns kept h k f m (Own (One w)) at is = absurd is
-resize_part ns kept h k f m (Own (Many kind x vs)) at is =
-    written shown ns (with_part k f (sized (Own (Many kind x vs)) m) ns) kept h k f (Own (Many kind x vs)) (Many kind x (take m vs ++ replicate (m - length vs) x))
-    (resized m (integer x) (list_at kept.roots (field_at kept.places k f))) at tt
-    (ap (resized m (integer x)) (h.shows k f (Own (Many kind x vs)) at) ∙ sym (sized_of m vs x)) (with_changed ns k f (Own (Many kind x vs)) (sized (Own (Many kind x vs)) m) at)
-resize_part ns kept h k f m (Child x) at is = absurd is
-resize_part ns kept h k f m (Children xs) at is = absurd is
+size_items : {X : Type 0} (g : X → StobjList ℕ) (xs : List X) (fill : X) (ns : Nodes) (kept : Kept) (h : Holds ns kept) (k f m : ℕ) (old new : Field) → part_at ns k f ≡ Some (Own old)
+    → list_of old ≡ items_of (map g xs) → items_of (map g (take m xs ++ replicate (m - length xs) fill)) ≡ list_of new
+    → Holds (with_part k f (Own new) ns) (with_field k f (resized m (g fill) (list_at kept.roots (field_at kept.places k f))) kept)
+size_items g xs fill ns kept h k f m old new at d e =
+    written shown ns (with_part k f (Own new) ns) kept h k f (Own old) new (resized m (g fill) (list_at kept.roots (field_at kept.places k f))) at tt
+    (ap (resized m (g fill)) (h.shows k f (Own old) at ∙ d) ∙ (sym (sized_of g m xs fill) ∙ e)) (with_changed ns k f (Own old) (Own new) at)
+
+pub resize_part : (hs : Objects) (ns : Nodes) (kept : Kept) (h : Holds ns kept) (k f m : ℕ) (p : Part Field) → part_at ns k f ≡ Some p → IsSized p
+    → Holds (with_part k f (sized hs p m) ns) (with_field k f (resized m (filling hs p) (list_at kept.roots (field_at kept.places k f))) kept)
+resize_part hs ns kept h k f m (Own (One w)) at is = absurd is
+resize_part hs ns kept h k f m (Own (Many kind x vs)) at is = size_items integer vs x ns kept h k f m (Many kind x vs) (Many kind x (take m vs ++ replicate (m - length vs) x)) at refl refl
+resize_part hs ns kept h k f m (Own (Any o)) at is = absurd is
+resize_part hs ns kept h k f m (Own (Anys x os)) at is =
+    size_items plain os (object_of hs x) ns kept h k f m (Anys x os) (Anys x (take m os ++ replicate (m - length os) (object_of hs x))) at refl refl
+resize_part hs ns kept h k f m (Child x) at is = absurd is
+resize_part hs ns kept h k f m (Children xs) at is = absurd is
 
 -- ---- layouts
 
@@ -123,7 +176,7 @@ matches_same ns after k (fields.Children id n) (Child c) l m = m
 matches_same ns after k (fields.Children id n) (Children cs) l m = (m.0, λ i c g. let o = m.1 i c g in (o.0, l c o.0 ∙ o.1))
 
 -- a part that matches is put in place of another
-follow_changed : (layouts : List Layout) (ns after : Nodes) (k f : ℕ) (old new : Part Field) → part_at ns k f ≡ Some old → IsChanged k f new ns after
+pub follow_changed : (layouts : List Layout) (ns after : Nodes) (k f : ℕ) (old new : Part Field) → part_at ns k f ≡ Some old → IsChanged k f new ns after
     → ((field : LayoutField) → field_in layouts (layout_at ns k) f ≡ Some field → Matches ns k field old → Matches ns k field new) → Follow layouts ns → Follow layouts after
 follow_changed layouts ns after k f old new at c same h = record {
   sizes = λ j w. ap (size_in layouts) (c.layouts j) ∙ (h.sizes j (subst (λ (m : ℕ). j < m) c.counted w) ∙ ap Some (sym (c.widths j)));
@@ -149,38 +202,65 @@ follow_changed layouts ns after k f old new at c same h = record {
 element_matches : (ns : Nodes) (k : ℕ) (field : LayoutField) (p : Part Field) (i : ℕ) (v : ℤ) → Matches ns k field p → Matches ns k field (with_element p i v)
 element_matches ns k (fields.Scalar kind w) (Own (One x)) i v m = m
 element_matches ns k (fields.Scalar kind w) (Own (Many q x vs)) i v m = m
+element_matches ns k (fields.Scalar kind w) (Own (Any o)) i v m = m
+element_matches ns k (fields.Scalar kind w) (Own (Anys x os)) i v m = m
 element_matches ns k (fields.Scalar kind w) (Child c) i v m = m
 element_matches ns k (fields.Scalar kind w) (Children cs) i v m = m
 element_matches ns k (fields.Array kind w n r) (Own (One x)) i v m = m
 element_matches ns k (fields.Array kind w n r) (Own (Many q x vs)) i v m =
-    (m.0, m.1, subst (λ (j : ℕ). j < 2 ^ 32) (sym (length-set vs i v)) m.2, λ e. length-set vs i v ∙ m.3 e)
+    (m.0, m.1, subst (λ (j : ℕ). j < 2 ^ 32) (sym (length-set vs i v)) m.2, λ e. length-set vs i v ∙ m.3 e, m.4)
+element_matches ns k (fields.Array kind w n r) (Own (Any o)) i v m = m
+element_matches ns k (fields.Array kind w n r) (Own (Anys x os)) i v m = m
 element_matches ns k (fields.Array kind w n r) (Child c) i v m = m
 element_matches ns k (fields.Array kind w n r) (Children cs) i v m = m
 element_matches ns k (fields.Hash test) p i v m = absurd m
-element_matches ns k (fields.Child id) (Own (One x)) i v m = m
-element_matches ns k (fields.Child id) (Own (Many q x vs)) i v m = m
+element_matches ns k (fields.Child id) (Own o) i v m = absurd m
 element_matches ns k (fields.Child id) (Child c) i v m = m
 element_matches ns k (fields.Child id) (Children cs) i v m = m
-element_matches ns k (fields.Children id n) (Own (One x)) i v m = m
-element_matches ns k (fields.Children id n) (Own (Many q x vs)) i v m = m
+element_matches ns k (fields.Children id n) (Own o) i v m = absurd m
 element_matches ns k (fields.Children id n) (Child c) i v m = m
 element_matches ns k (fields.Children id n) (Children cs) i v m = m
+
+pub held_matches : (ns : Nodes) (k : ℕ) (field : LayoutField) (p : Part Field) (i : ℕ) (v : Object ℕ) → Matches ns k field p → Matches ns k field (with_held p i v)
+held_matches ns k (fields.Scalar kind w) (Own (One x)) i v m = m
+held_matches ns k (fields.Scalar kind w) (Own (Many q x vs)) i v m = m
+held_matches ns k (fields.Scalar kind w) (Own (Any o)) i v m = m
+held_matches ns k (fields.Scalar kind w) (Own (Anys x os)) i v m = m
+held_matches ns k (fields.Scalar kind w) (Child c) i v m = m
+held_matches ns k (fields.Scalar kind w) (Children cs) i v m = m
+held_matches ns k (fields.Array kind w n r) (Own (One x)) i v m = m
+held_matches ns k (fields.Array kind w n r) (Own (Many q x vs)) i v m = m
+held_matches ns k (fields.Array kind w n r) (Own (Any o)) i v m = m
+held_matches ns k (fields.Array kind w n r) (Own (Anys x os)) i v m =
+    (m.0, m.1, subst (λ (j : ℕ). j < 2 ^ 32) (sym (length-set os i v)) m.2, λ e. length-set os i v ∙ m.3 e)
+held_matches ns k (fields.Array kind w n r) (Child c) i v m = m
+held_matches ns k (fields.Array kind w n r) (Children cs) i v m = m
+held_matches ns k (fields.Hash test) p i v m = absurd m
+held_matches ns k (fields.Child id) (Own o) i v m = absurd m
+held_matches ns k (fields.Child id) (Child c) i v m = m
+held_matches ns k (fields.Child id) (Children cs) i v m = m
+held_matches ns k (fields.Children id n) (Own o) i v m = absurd m
+held_matches ns k (fields.Children id n) (Child c) i v m = m
+held_matches ns k (fields.Children id n) (Children cs) i v m = m
 
 size_resized : (m : ℕ) (fill l : StobjList ℕ) → size (resized m fill l) ≡ m
 size_resized zero fill l = refl
 size_resized (suc m) fill l = let e = size_resized m fill (rest_of l) in omega (arith, e)
 
-length_sized : (vs : List ℤ) (m : ℕ) (x : ℤ) → length (take m vs ++ replicate (m - length vs) x) ≡ m
-length_sized vs m x = sym (size_of (take m vs ++ replicate (m - length vs) x)) ∙ (ap size (sized_of m vs x) ∙ size_resized m (integer x) (items_of (map integer vs)))
+length_sized : {X : Type 0} (g : X → StobjList ℕ) (xs : List X) (m : ℕ) (x : X) → length (take m xs ++ replicate (m - length xs) x) ≡ m
+length_sized g xs m x = sym (size_of g (take m xs ++ replicate (m - length xs) x)) ∙ (ap size (sized_of g m xs x) ∙ size_resized m (g x) (items_of (map g xs)))
 
-sized_matches : (ns : Nodes) (k : ℕ) (kind : Kind) (w : Word) (n m : ℕ) (p : Part Field) → m < 2 ^ 32 → Matches ns k (fields.Array kind w n true) p → Matches ns k (fields.Array kind w n true) (sized p m)
-sized_matches ns k kind w n m (Own (One x)) u h = h
-sized_matches ns k kind w n m (Own (Many q x vs)) u h = (h.0, h.1, subst (λ (j : ℕ). j < 2 ^ 32) (sym (length_sized vs m x)) u, λ e. absurd (true_false e))
-  where
-    true_false : true ≡ false → ⊥
-    true_false e = cc
-sized_matches ns k kind w n m (Child c) u h = h
-sized_matches ns k kind w n m (Children cs) u h = h
+true_false : true ≡ false → ⊥
+true_false e = cc
+
+sized_matches : (hs : Objects) (ns : Nodes) (k : ℕ) (kind : Kind) (w : Word) (n m : ℕ) (p : Part Field) → m < 2 ^ 32 → Matches ns k (fields.Array kind w n true) p
+    → Matches ns k (fields.Array kind w n true) (sized hs p m)
+sized_matches hs ns k kind w n m (Own (One x)) u h = h
+sized_matches hs ns k kind w n m (Own (Many q x vs)) u h = (h.0, h.1, subst (λ (j : ℕ). j < 2 ^ 32) (sym (length_sized integer vs m x)) u, λ e. absurd (true_false e), h.4)
+sized_matches hs ns k kind w n m (Own (Any o)) u h = h
+sized_matches hs ns k kind w n m (Own (Anys x os)) u h = (h.0, h.1, subst (λ (j : ℕ). j < 2 ^ 32) (sym (length_sized plain os m (object_of hs x))) u, λ e. absurd (true_false e))
+sized_matches hs ns k kind w n m (Child c) u h = h
+sized_matches hs ns k kind w n m (Children cs) u h = h
 
 -- ---- memory
 
@@ -247,6 +327,17 @@ module _ (ns : List Memory) (k f : ℕ) (node : Memory) (low : k < length ns) (e
         (λ s at a b. read_part (view ns) kept h k f i s at a ∙ ap integer (sym b)) p q,
   )
 
+  pub reads_object : (i : ℕ) (hs : Objects) (w : Word) → IsGeneral (view ns) k f i → IfSome (slice_get node.slots.items f) (λ s. Denotes hs w (held (part_of s) i)) → ReadsObject (view ns) k f i hs w
+  reads_object i hs w p q = (
+    out (part_at (view ns) k f) p (by_part (λ s. IsHeld s i) (λ s. Denotes hs w (held s i)) (λ s. Lies hs w) (λ s at a b. b.lies) p q),
+    λ kept g. by_part (λ s. IsHeld s i) (λ s. Denotes hs w (held s i)) (λ s. list_at kept.roots (place_in kept s k f i) ≡ plain (object_of hs w))
+        (λ s at a b. read_value (view ns) kept g k f i s at (held_value s i a).0 ∙ ((held_value s i a).1 ∙ ap plain (sym b.is))) p q,
+  )
+    where
+      out : (r : Option (Part Field)) → IsSomeAnd r (λ s. IsHeld s i) → IfSome r (λ s. Lies hs w) → Lies hs w
+      out None p q = absurd p
+      out (Some s) p q = q
+
   -- the part that was put
   pub puts_it : (P : Part Field → Type 0) (g : Part Field → Part Field) (new : Memory) → IsSomeAnd (part_at (view ns) k f) P → new.layout ≡ node.layout
       → IfSome (slice_get node.slots.items f) (λ s. parts_of new ≡ set (parts_of node) f (g (part_of s))) → IfSome (part_at (view ns) k f) (λ p. view (set ns k new) ≡ with_part k f (g p) (view ns))
@@ -270,11 +361,11 @@ module _ (ns : List Memory) (k f : ℕ) (node : Memory) (low : k < length ns) (e
 -- ---- calls
 
 -- by the part, once more
-by_some : (r : Option (Part Field)) (P Q R : Part Field → Type 0) → ((p : Part Field) → r ≡ Some p → P p → Q p → R p) → IsSomeAnd r P → IfSome r Q → IfSome r R
+pub by_some : (r : Option (Part Field)) (P Q R : Part Field → Type 0) → ((p : Part Field) → r ≡ Some p → P p → Q p → R p) → IsSomeAnd r P → IfSome r Q → IfSome r R
 by_some None P Q R g p q = absurd p
 by_some (Some s) P Q R g p q = g s refl p q
 
-out_of : (r : Option (Part Field)) (P : Part Field → Type 0) (R : Type 0) → IsSomeAnd r P → IfSome r (λ p. R) → R
+pub out_of : (r : Option (Part Field)) (P : Part Field → Type 0) (R : Type 0) → IsSomeAnd r P → IfSome r (λ p. R) → R
 out_of None P R p q = absurd p
 out_of (Some s) P R p q = q
 
@@ -288,18 +379,19 @@ unfolding StayTyped
 put_typed ns after k f i v p q layouts h = out_of (part_at ns k f) (λ s. IsElement s i) (Follow layouts after) p (by_some (part_at ns k f) (λ s. IsElement s i) (λ s. after ≡ with_part k f (with_element s i v) ns) (λ s. Follow layouts after)
     (λ s at a b. subst (Follow layouts) (sym b) (follow_changed layouts ns (with_part k f (with_element s i v) ns) k f s (with_element s i v) at (with_changed ns k f s (with_element s i v) at) (λ field e m. element_matches ns k field s i v m) h)) p q)
 
-pub resizes : (ns after : Nodes) (k f m : ℕ) → calls.IsArray ns k f → IsSizedTo ns k f m after → Resizes ns k f m after
-resizes ns after k f m p q kept h = by_some (part_at ns k f) IsSized (λ s. after ≡ with_part k f (sized s m) ns)
-    (λ s. Holds after (with_field k f (resized m (filling s) (list_at kept.roots (field_at kept.places k f))) kept))
-    (λ s at a b. subst (λ (ms : Nodes). Holds ms (with_field k f (resized m (filling s) (list_at kept.roots (field_at kept.places k f))) kept)) (sym b) (resize_part ns kept h k f m s at a)) p q
+pub resizes : (hs : Objects) (ns after : Nodes) (k f m : ℕ) → calls.IsArray hs ns k f → IsSizedTo hs ns k f m after → Resizes hs ns k f m after
+resizes hs ns after k f m p q kept h = by_some (part_at ns k f) (λ s. IsSized s × IsFilled hs s) (λ s. after ≡ with_part k f (sized hs s m) ns)
+    (λ s. Holds after (with_field k f (resized m (filling hs s) (list_at kept.roots (field_at kept.places k f))) kept))
+    (λ s at a b. subst (λ (ms : Nodes). Holds ms (with_field k f (resized m (filling hs s) (list_at kept.roots (field_at kept.places k f))) kept)) (sym b) (resize_part hs ns kept h k f m s at a.0)) p q
 
-pub size_typed : (ns after : Nodes) (k f m : ℕ) → m < 2 ^ 32 → calls.IsArray ns k f → IsSizedTo ns k f m after → StayTypedIf k f ns after
+pub size_typed : (hs : Objects) (ns after : Nodes) (k f m : ℕ) → m < 2 ^ 32 → calls.IsArray hs ns k f → IsSizedTo hs ns k f m after → StayTypedIf k f ns after
 unfolding StayTypedIf
-size_typed ns after k f m u p q layouts kind w n is h = out_of (part_at ns k f) IsSized (Follow layouts after) p (by_some (part_at ns k f) IsSized (λ s. after ≡ with_part k f (sized s m) ns) (λ s. Follow layouts after)
-    (λ s at a b. subst (Follow layouts) (sym b) (follow_changed layouts ns (with_part k f (sized s m) ns) k f s (sized s m) at (with_changed ns k f s (sized s m) at) (λ field e x. by_field s field (some_same (sym is ∙ e)) x) h)) p q)
+size_typed hs ns after k f m u p q layouts kind w n is h = out_of (part_at ns k f) (λ s. IsSized s × IsFilled hs s) (Follow layouts after) p
+    (by_some (part_at ns k f) (λ s. IsSized s × IsFilled hs s) (λ s. after ≡ with_part k f (sized hs s m) ns) (λ s. Follow layouts after)
+    (λ s at a b. subst (Follow layouts) (sym b) (follow_changed layouts ns (with_part k f (sized hs s m) ns) k f s (sized hs s m) at (with_changed ns k f s (sized hs s m) at) (λ field e x. by_field s field (some_same (sym is ∙ e)) x) h)) p q)
   where
-    by_field : (s : Part Field) (field : LayoutField) → fields.Array kind w n true ≡ field → Matches ns k field s → Matches ns k field (sized s m)
-    by_field s field e x = subst (λ (g : LayoutField). Matches ns k g (sized s m)) e (sized_matches ns k kind w n m s u (subst (λ (g : LayoutField). Matches ns k g s) (sym e) x))
+    by_field : (s : Part Field) (field : LayoutField) → fields.Array kind w n true ≡ field → Matches ns k field s → Matches ns k field (sized hs s m)
+    by_field s field e x = subst (λ (g : LayoutField). Matches ns k g (sized hs s m)) e (sized_matches hs ns k kind w n m s u (subst (λ (g : LayoutField). Matches ns k g s) (sym e) x))
 
 pub cuts : (ns after : Nodes) (m : ℕ) → m ≤ length ns → after ≡ take m ns → Cuts ns m after
 cuts ns after m u e = subst (λ (ms : Nodes). Cuts ns m ms) (sym e) (cut_holds shown ns m u)
@@ -331,8 +423,8 @@ view_take ns zero = refl
 view_take [] (suc m) = refl
 view_take (n ∷ ns) (suc m) = ap (λ (ms : Nodes). node_of n ∷ ms) (view_take ns m)
 
-pub nothing : (ns : List Memory) → ns ≡ [] → Holds (view ns) (record { roots = []; places = [] })
-nothing ns e = subst (λ (ms : List Memory). Holds (view ms) (record { roots = []; places = [] })) (sym e) (nothing_holds shown)
+pub nothing_there : (ns : List Memory) → ns ≡ [] → Holds (view ns) (record { roots = []; places = [] })
+nothing_there ns e = subst (λ (ms : List Memory). Holds (view ms) (record { roots = []; places = [] })) (sym e) (nothing_holds shown)
 
 pub cut_back : (old new after : List Memory) (m : ℕ) → m ≡ length old → after ≡ take m new → Extends (view old) (view new) → view after ≡ view old
 cut_back old new after m l e g = ap view e ∙ (view_take new m ∙ (ap (λ (k : ℕ). take k (view new)) (l ∙ sym (length-map old node_of)) ∙ g.1))

@@ -4,7 +4,8 @@ use Rattle.acl_base.specs.declared.layout.Field.TheVariants as fields
 use Rattle.acl_base.specs.declared.layout.Kind.{Kind}
 use Rattle.acl_base.specs.declared.layout.Layout.{Layout}
 use Rattle.acl_base.specs.declared.Word.{Word}
-use Rattle.acl_heap.specs.Objects.{Objects}
+use Rattle.acl_heap.specs.Objects.{Objects, object_of, Lies}
+use Rattle.model_objects.specs.Object.{Object}
 use Rattle.model_lists.specs.Lists.{StobjList, size, resized}
 use Rattle.model_eval.specs.PlacesKeeping.{Place, below, list_at, with_list_at}
 use Rattle.acl_nodes.specs.Kept.{Kept, place_at, field_at, with_field}
@@ -12,7 +13,7 @@ use Rattle.acl_nodes.specs.Nodes.{Part, Node, part_at, layout_at, with_part}
 use Rattle.acl_nodes.specs.Holding as nodes
 use Rattle.acl_nodes.specs.Making.{IsCreated}
 use Rattle.acl_nodes.specs.Cutting as cutting
-use Rattle.acl_store.specs.Fields.{Field, shown, integer, IsSmall, number_of, IsElement, IsKept, with_element, IsSized, sized, filling, HasLength}
+use Rattle.acl_store.specs.Fields.{Field, shown, integer, plain, IsSmall, number_of, IsElement, IsKept, with_element, IsHeld, with_held, IsSized, IsFilled, sized, filling, HasLength}
 use Rattle.acl_store.specs.Parts.{HasChild, path_in}
 use Rattle.acl_store.specs.Layouts.{AreBorn, Follow, field_in}
 
@@ -36,8 +37,12 @@ IsInline ns n f i = IsSomeAnd (part_at ns n f) (λ p. IsElement p i)
 abbrev pub IsWord : Nodes → ℕ → ℕ → Word → Type 0
 IsWord ns n f w = IsSomeAnd (part_at ns n f) (λ p. IsSmall w × IsKept p (number_of w))
 
-abbrev pub IsArray : Nodes → ℕ → ℕ → Type 0
-IsArray ns n f = IsSomeAnd (part_at ns n f) IsSized
+abbrev pub IsGeneral : Nodes → ℕ → ℕ → ℕ → Type 0
+IsGeneral ns n f i = IsSomeAnd (part_at ns n f) (λ p. IsHeld p i)
+
+-- an array, and what its elements begin as lies in the heap
+abbrev pub IsArray : Objects → Nodes → ℕ → ℕ → Type 0
+IsArray h ns n f = IsSomeAnd (part_at ns n f) (λ p. IsSized p × IsFilled h p)
 
 abbrev pub IsMany : Nodes → ℕ → ℕ → Type 0
 IsMany ns n f = IsSomeAnd (part_at ns n f) HasLength
@@ -60,6 +65,19 @@ Writes ns n f i v after =
 abbrev pub IsPut : Nodes → ℕ → ℕ → ℕ → ℤ → Nodes → Type 0
 IsPut ns n f i v after = IfSome (part_at ns n f) (λ p. after ≡ with_part n f (with_element p i v) ns)
 
+-- the word is that of the object at the place, in a heap
+abbrev pub ReadsObject : Nodes → ℕ → ℕ → ℕ → Objects → Word → Type 0
+ReadsObject ns n f i h w = Lies h w × ((kept : Kept) → Holds ns kept → IfSome (part_at ns n f) (λ p. list_at kept.roots (place_in kept p n f i) ≡ plain (object_of h w)))
+
+-- the roots have the object at the place
+abbrev pub WritesObject : Nodes → ℕ → ℕ → ℕ → Object ℕ → Nodes → Type 0
+WritesObject ns n f i o after =
+    (kept : Kept) → Holds ns kept → IfSome (part_at ns n f) (λ p. Holds after (record kept { roots = with_list_at (place_in kept p n f i) (plain o) kept.roots }))
+
+-- one object of one field is another, and all else is as it was
+abbrev pub IsObjectPut : Nodes → ℕ → ℕ → ℕ → Object ℕ → Nodes → Type 0
+IsObjectPut ns n f i o after = IfSome (part_at ns n f) (λ p. after ≡ with_part n f (with_held p i o) ns)
+
 abbrev pub Measures : Nodes → ℕ → ℕ → ℕ → Type 0
 Measures ns n f m = (kept : Kept) → Holds ns kept → size (list_at kept.roots (field_at kept.places n f)) ≡ m
 
@@ -68,13 +86,13 @@ abbrev pub Lends : Nodes → ℕ → ℕ → ℕ → ℕ → Type 0
 Lends ns n f i c = (kept : Kept) → Holds ns kept → IfSome (part_at ns n f) (λ p. (place_at kept.places c ≡ place_in kept p n f i) × (c < n))
 
 -- the roots have the array cut, or lengthened with what its elements began as
-abbrev pub Resizes : Nodes → ℕ → ℕ → ℕ → Nodes → Type 0
-Resizes ns n f m after =
-    (kept : Kept) → Holds ns kept → IfSome (part_at ns n f) (λ p. Holds after (with_field n f (resized m (filling p) (list_at kept.roots (field_at kept.places n f))) kept))
+abbrev pub Resizes : Objects → Nodes → ℕ → ℕ → ℕ → Nodes → Type 0
+Resizes h ns n f m after =
+    (kept : Kept) → Holds ns kept → IfSome (part_at ns n f) (λ p. Holds after (with_field n f (resized m (filling h p) (list_at kept.roots (field_at kept.places n f))) kept))
 
 -- one array has another length, and all else is as it was
-abbrev pub IsSizedTo : Nodes → ℕ → ℕ → ℕ → Nodes → Type 0
-IsSizedTo ns n f m after = IfSome (part_at ns n f) (λ p. after ≡ with_part n f (sized p m) ns)
+abbrev pub IsSizedTo : Objects → Nodes → ℕ → ℕ → ℕ → Nodes → Type 0
+IsSizedTo h ns n f m after = IfSome (part_at ns n f) (λ p. after ≡ with_part n f (sized h p m) ns)
 
 -- the first places are left, and the roots that they are in, whichever more there are
 abbrev pub Cuts : Nodes → ℕ → Nodes → Type 0

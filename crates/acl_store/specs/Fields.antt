@@ -4,23 +4,32 @@ use Rattle.acl_base.specs.declared.layout.Kind.{Kind}
 use Rattle.acl_base.specs.declared.layout.Kind.TheVariants.{Byte, I32, I64, General}
 use Rattle.acl_base.specs.declared.Word.{Word}
 use Rattle.acl_base.specs.declared.Word.TheVariants.{Small, Big, Sym, Str, Cons}
-use Rattle.model_objects.specs.Object.{Integer}
-use Rattle.model_lists.specs.Lists.{StobjList, Value}
+use Rattle.acl_heap.specs.Objects.{Objects, object_of, nothing, Lies}
+use Rattle.model_objects.specs.Object.{Object, Integer}
+use Rattle.model_lists.specs.Lists.{StobjList, Value, End}
 use Rattle.acl_nodes.specs.Kept.{items_of}
 use Rattle.acl_nodes.specs.Nodes.{Part, Own, Child, Children}
 
--- one integer, or an array of them: their kind, what new ones begin as, and the elements
+-- one integer, or an array of them: their kind, what new ones begin as, and the elements; or one object of any kind, or an array
+-- of them: the word of what new ones begin as, and the elements
 pub data Field : Type 0 where
   One : ℤ → Field
   Many : Kind → ℤ → List ℤ → Field
+  Any : Object ℕ → Field
+  Anys : Word → List (Object ℕ) → Field
 
 abbrev pub integer : ℤ → StobjList ℕ
 integer v = Value (Integer v)
+
+abbrev pub plain : Object ℕ → StobjList ℕ
+plain o = Value o
 
 -- the list of a field
 abbrev pub list_of : Field → StobjList ℕ
 list_of (One v) = integer v
 list_of (Many kind initial vs) = items_of (map integer vs)
+list_of (Any o) = plain o
+list_of (Anys initial os) = items_of (map plain os)
 
 abbrev pub shown : Field → StobjList ℕ → Type 0
 shown o l = l ≡ list_of o
@@ -54,12 +63,16 @@ InRange General v = ⊥
 abbrev pub IsElement : Part Field → ℕ → Type 0
 IsElement (Own (One v)) i = i ≡ 0
 IsElement (Own (Many kind initial vs)) i = i < length vs
+IsElement (Own (Any o)) i = ⊥
+IsElement (Own (Anys initial os)) i = ⊥
 IsElement (Child c) i = ⊥
 IsElement (Children cs) i = ⊥
 
 abbrev pub element : Part Field → ℕ → ℤ
 element (Own (One v)) i = v
 element (Own (Many kind initial vs)) i = get_or vs i (pos 0)
+element (Own (Any o)) i = pos 0
+element (Own (Anys initial os)) i = pos 0
 element (Child c) i = pos 0
 element (Children cs) i = pos 0
 
@@ -67,46 +80,113 @@ element (Children cs) i = pos 0
 abbrev pub IsKept : Part Field → ℤ → Type 0
 IsKept (Own (One v)) new = Unit {0}
 IsKept (Own (Many kind initial vs)) new = InRange kind new
+IsKept (Own (Any o)) new = ⊥
+IsKept (Own (Anys initial os)) new = ⊥
 IsKept (Child c) new = ⊥
 IsKept (Children cs) new = ⊥
 
 abbrev pub with_element : Part Field → ℕ → ℤ → Part Field
 with_element (Own (One v)) i new = Own (One new)
 with_element (Own (Many kind initial vs)) i new = Own (Many kind initial (slice_set vs i new))
+with_element (Own (Any o)) i new = Own (Any o)
+with_element (Own (Anys initial os)) i new = Own (Anys initial os)
 with_element (Child c) i new = Child c
 with_element (Children cs) i new = Children cs
+
+-- ---- objects
+
+-- there is an object of this index, of any kind
+abbrev pub IsHeld : Part Field → ℕ → Type 0
+IsHeld (Own (One v)) i = ⊥
+IsHeld (Own (Many kind initial vs)) i = ⊥
+IsHeld (Own (Any o)) i = i ≡ 0
+IsHeld (Own (Anys initial os)) i = i < length os
+IsHeld (Child c) i = ⊥
+IsHeld (Children cs) i = ⊥
+
+abbrev pub held : Part Field → ℕ → Object ℕ
+held (Own (One v)) i = nothing
+held (Own (Many kind initial vs)) i = nothing
+held (Own (Any o)) i = o
+held (Own (Anys initial os)) i = get_or os i nothing
+held (Child c) i = nothing
+held (Children cs) i = nothing
+
+abbrev pub with_held : Part Field → ℕ → Object ℕ → Part Field
+with_held (Own (One v)) i new = Own (One v)
+with_held (Own (Many kind initial vs)) i new = Own (Many kind initial vs)
+with_held (Own (Any o)) i new = Own (Any new)
+with_held (Own (Anys initial os)) i new = Own (Anys initial (slice_set os i new))
+with_held (Child c) i new = Child c
+with_held (Children cs) i new = Children cs
+
+-- the list of what is there at an index, an integer or another object
+abbrev pub value_at : Part Field → ℕ → StobjList ℕ
+value_at (Own (One v)) i = integer v
+value_at (Own (Many kind initial vs)) i = integer (get_or vs i (pos 0))
+value_at (Own (Any o)) i = plain o
+value_at (Own (Anys initial os)) i = plain (get_or os i nothing)
+value_at (Child c) i = End
+value_at (Children cs) i = End
+
+abbrev pub HasValue : Part Field → ℕ → Type 0
+HasValue (Own (One v)) i = i ≡ 0
+HasValue (Own (Many kind initial vs)) i = i < length vs
+HasValue (Own (Any o)) i = i ≡ 0
+HasValue (Own (Anys initial os)) i = i < length os
+HasValue (Child c) i = ⊥
+HasValue (Children cs) i = ⊥
 
 -- ---- arrays
 
 abbrev pub IsSized : Part Field → Type 0
 IsSized (Own (One v)) = ⊥
 IsSized (Own (Many kind initial vs)) = Unit {0}
+IsSized (Own (Any o)) = ⊥
+IsSized (Own (Anys initial os)) = Unit {0}
 IsSized (Child c) = ⊥
 IsSized (Children cs) = ⊥
 
--- an array cut or lengthened
-abbrev pub sized : Part Field → ℕ → Part Field
-sized (Own (One v)) n = Own (One v)
-sized (Own (Many kind initial vs)) n = Own (Many kind initial (take n vs ++ replicate (n - length vs) initial))
-sized (Child c) n = Child c
-sized (Children cs) n = Children cs
+-- the word of what new elements begin as lies in the heap
+abbrev pub IsFilled : Objects → Part Field → Type 0
+IsFilled h (Own (One v)) = Unit {0}
+IsFilled h (Own (Many kind initial vs)) = Unit {0}
+IsFilled h (Own (Any o)) = Unit {0}
+IsFilled h (Own (Anys initial os)) = Lies h initial
+IsFilled h (Child c) = Unit {0}
+IsFilled h (Children cs) = Unit {0}
+
+-- an array cut or lengthened, with a heap that has what new elements begin as
+abbrev pub sized : Objects → Part Field → ℕ → Part Field
+sized h (Own (One v)) n = Own (One v)
+sized h (Own (Many kind initial vs)) n = Own (Many kind initial (take n vs ++ replicate (n - length vs) initial))
+sized h (Own (Any o)) n = Own (Any o)
+sized h (Own (Anys initial os)) n = Own (Anys initial (take n os ++ replicate (n - length os) (object_of h initial)))
+sized h (Child c) n = Child c
+sized h (Children cs) n = Children cs
 
 -- what new elements begin as
-abbrev pub filling : Part Field → StobjList ℕ
-filling (Own (One v)) = integer v
-filling (Own (Many kind initial vs)) = integer initial
-filling (Child c) = integer (pos 0)
-filling (Children cs) = integer (pos 0)
+abbrev pub filling : Objects → Part Field → StobjList ℕ
+filling h (Own (One v)) = integer v
+filling h (Own (Many kind initial vs)) = integer initial
+filling h (Own (Any o)) = plain o
+filling h (Own (Anys initial os)) = plain (object_of h initial)
+filling h (Child c) = integer (pos 0)
+filling h (Children cs) = integer (pos 0)
 
 -- an array or an array of children, of less than 2^32
 abbrev pub HasLength : Part Field → Type 0
 HasLength (Own (One v)) = ⊥
 HasLength (Own (Many kind initial vs)) = length vs < 2 ^ 32
+HasLength (Own (Any o)) = ⊥
+HasLength (Own (Anys initial os)) = length os < 2 ^ 32
 HasLength (Child c) = ⊥
 HasLength (Children cs) = length cs < 2 ^ 32
 
 abbrev pub length_of : Part Field → ℕ
 length_of (Own (One v)) = 0
 length_of (Own (Many kind initial vs)) = length vs
+length_of (Own (Any o)) = 0
+length_of (Own (Anys initial os)) = length os
 length_of (Child c) = 0
 length_of (Children cs) = length cs

@@ -1,27 +1,34 @@
 -- What a journal notes of fields, and what is remembered by it.
 use Rattle.std.specs.Prelude.{◌≡◌, ◌⊎◌, ℕ, ℤ, ◌<◌, ◌≤◌, List, [], ◌∷◌, ◌++◌, map, length, take, Option, Some, None, IsSomeAnd, IfSome}
-use Rattle.model_lists.specs.Lists.{StobjList, End}
+use Rattle.acl_base.specs.declared.layout.Layout.{Layout}
+use Rattle.acl_heap.specs.Objects.{Objects}
+use Rattle.model_objects.specs.Object.{Object}
+use Rattle.model_lists.specs.Lists.{StobjList, End, resized}
 use Rattle.model_eval.specs.PlacesKeeping.{list_at, with_list_at}
-use Rattle.acl_nodes.specs.Kept.{Kept, place_at}
+use Rattle.acl_nodes.specs.Kept.{Kept, place_at, field_at, with_field, IsRooted}
+use Rattle.acl_nodes.specs.Making.{IsCreated}
 use Rattle.acl_nodes.specs.Nodes.{Part, Own, Child, Children, part_at, with_part, IsOwn}
 use Rattle.acl_nodes.specs.Notes as notes
 use Rattle.acl_nodes.specs.Notes.{Note, Among}
-use Rattle.acl_store.specs.Fields.{Field, list_of, integer, IsElement, IsKept, IsSized, with_element, element}
+use Rattle.acl_store.specs.Fields.{Field, shown, list_of, integer, plain, IsElement, IsKept, IsHeld, IsSized, with_element, with_held, value_at, filling}
 use Rattle.acl_store.specs.Parts.{part_of, path_in}
 use Rattle.acl_store.specs.Calls.{Nodes, Holds, place_in}
+use Rattle.acl_store.specs.Layouts.{AreBorn}
 use Rattle.acl_store.specs.declared.notes.Old.{Old}
 use Rattle.acl_store.specs.declared.notes.OldPart.{OldPart}
-use Rattle.acl_store.specs.declared.notes.OldPart.TheVariants.{Element, Whole}
+use Rattle.acl_store.specs.declared.notes.OldPart.TheVariants.{Element, Held, Whole}
 
 -- ---- one note
 
 -- the field once the note is put back
 abbrev pub back : OldPart → Part Field → Part Field
 back (Element i v) p = with_element p i v
+back (Held i o) p = with_held p i o
 back (Whole s) p = part_of s
 
 abbrev pub path_noted : OldPart → ℕ → List ℕ
 path_noted (Element i v) f = f ∷ i ∷ []
+path_noted (Held i o) f = f ∷ i ∷ []
 path_noted (Whole s) f = f ∷ []
 
 -- the list of a field of a node's own
@@ -32,6 +39,7 @@ own_list (Children cs) = End
 
 abbrev pub list_noted : OldPart → StobjList ℕ
 list_noted (Element i v) = integer v
+list_noted (Held i o) = plain o
 list_noted (Whole s) = own_list (part_of s)
 
 abbrev pub note_of : Old → Note
@@ -40,6 +48,7 @@ note_of o = record { node = o.node; path = path_noted o.part o.field; list = lis
 -- it may be put back into the field
 abbrev pub SuitsPart : OldPart → Part Field → Type 0
 SuitsPart (Element i v) p = IsSized p × IsElement p i × IsKept p v
+SuitsPart (Held i o) p = IsSized p × IsHeld p i
 SuitsPart (Whole s) p = IsOwn p × IsOwn (part_of s)
 
 abbrev pub Suits : Nodes → Old → Type 0
@@ -58,12 +67,34 @@ abbrev pub Fit : Nodes → List Old → Type 0
 Fit ns [] = Unit {0}
 Fit ns (o ∷ os) = Suits ns o × Fit (put_back o ns) os
 
--- it is a note of the integer of this index, as it is
+-- it is a note of what is at this index, as it is
 pub record IsNote (q : OldPart) (p : Part Field) (i : ℕ) : Type 0 where
   pub suits : SuitsPart q p
   pub same : back q p ≡ p
   pub path : (f : ℕ) → path_noted q f ≡ path_in p f i
-  pub list : list_noted q ≡ integer (element p i)
+  pub list : list_noted q ≡ value_at p i
+
+-- it is a note of the whole field, as it is
+abbrev pub IsWhole : OldPart → Part Field → Type 0
+IsWhole (Element i v) p = ⊥
+IsWhole (Held i o) p = ⊥
+IsWhole (Whole s) p = part_of s ≡ p
+
+-- the whole field was noted, behind the others
+pub record IsNoted (ns : Nodes) (n f : ℕ) (olds news : List Old) : Type 0 where
+  pub note : Old
+  pub last : news ≡ olds ++ note ∷ []
+  pub is_node : note.node ≡ n
+  pub is_field : note.field ≡ f
+  pub whole : IfSome (part_at ns n f) (IsWhole note.part)
+
+-- what was at an index was noted, behind the others
+pub record IsNotedAt (ns : Nodes) (n f i : ℕ) (olds news : List Old) : Type 0 where
+  pub note : Old
+  pub last : news ≡ olds ++ note ∷ []
+  pub is_node : note.node ≡ n
+  pub is_field : note.field ≡ f
+  pub is : IfSome (part_at ns n f) (λ p. IsNote note.part p i)
 
 -- ---- what is remembered
 
@@ -101,3 +132,31 @@ unfoldable pub WriteRemembers : Nodes → List Old → ℕ → ℕ → ℕ → �
 WriteRemembers ns olds first n f i v after =
     (kept before : Kept) → Remembers ns olds first kept before
     → IfSome (part_at ns n f) (λ p. MayBeWritten olds first n (path_in p f i) → Remembers after olds first (record kept { roots = with_list_at (place_in kept p n f i) (integer v) kept.roots }) before)
+
+-- what may be written may be written still
+unfoldable pub StayWritable : List Old → ℕ → List Old → Type 0
+StayWritable olds first others = (n : ℕ) (path : List ℕ) → MayBeWritten olds first n path → MayBeWritten others first n path
+
+-- a new object leaves what is remembered, and its nodes are local
+unfoldable pub CreateRemembers : Objects → List Layout → ℕ → Nodes → List Old → ℕ → Nodes → ℕ → Type 0
+CreateRemembers h layouts id ns olds first after c =
+    (lists : ℕ → StobjList ℕ) → AreBorn h layouts lists → (kept before : Kept) → Remembers ns olds first kept before
+    → (d : IsCreated shown kept (lists id) after c) × Remembers after olds first (record { roots = kept.roots ++ lists id ∷ []; places = kept.places ++ d.more }) before
+
+-- an array of another length leaves what is remembered
+unfoldable pub ResizeRemembers : Objects → Nodes → List Old → ℕ → ℕ → ℕ → ℕ → Nodes → List Old → Type 0
+ResizeRemembers h ns olds first n f m after others =
+    (kept before : Kept) → Remembers ns olds first kept before
+    → IfSome (part_at ns n f) (λ p. Remembers after others first (with_field n f (resized m (filling h p) (list_at kept.roots (field_at kept.places n f))) kept) before)
+
+-- another object leaves what is remembered
+unfoldable pub ObjectRemembers : Nodes → List Old → ℕ → ℕ → ℕ → ℕ → Object ℕ → Nodes → List Old → Type 0
+ObjectRemembers ns olds first n f i o after others =
+    (kept before : Kept) → Remembers ns olds first kept before
+    → IfSome (part_at ns n f) (λ p. Remembers after others first (record kept { roots = with_list_at (place_in kept p n f i) (plain o) kept.roots }) before)
+
+-- the end of local nodes leaves what is remembered, in the first roots, among which are those of before
+unfoldable pub CutRemembers : Nodes → List Old → ℕ → ℕ → Nodes → Type 0
+CutRemembers ns olds first m after =
+    first ≤ m → (kept before : Kept) → Remembers ns olds first kept before → (r : ℕ) → length before.roots ≤ r → ((k : ℕ) → k < m → IsRooted r (place_at kept.places k))
+    → Remembers after olds first (record { roots = take r kept.roots; places = take m kept.places }) before

@@ -1,22 +1,30 @@
 -- Layouts: which of them a store keeps, what a new object begins as, and that nodes are as their layouts say.
-use Rattle.std.specs.Prelude.{◌≡◌, ℕ, zero, suc, ◌<◌, ◌^◌, List, [], ◌∷◌, map, length, replicate, slice_get, Option, Some, None, Bool, false}
+use Rattle.std.specs.Prelude.{◌≡◌, ◌≢◌, ℕ, zero, suc, ◌<◌, ◌^◌, List, [], ◌∷◌, map, length, replicate, slice_get, Option, Some, None, Bool, false}
 use Rattle.acl_base.specs.declared.layout.Field.{Field}
 use Rattle.acl_base.specs.declared.layout.Field.TheVariants as fields
 use Rattle.acl_base.specs.declared.layout.Kind.{Kind}
+use Rattle.acl_base.specs.declared.layout.Kind.TheVariants.{Byte, I32, I64, General}
 use Rattle.acl_base.specs.declared.layout.Layout.{Layout}
 use Rattle.acl_base.specs.declared.Word.{Word}
-use Rattle.acl_heap.specs.Objects.{Objects, object_of}
+use Rattle.acl_heap.specs.Objects.{Objects, object_of, Lies}
 use Rattle.model_lists.specs.Lists.{StobjList, Value, Pairs}
 use Rattle.acl_nodes.specs.Kept.{items_of}
 use Rattle.acl_nodes.specs.Nodes.{Part, Own, Child, Children, Node, part_at, width, layout_at}
 use Rattle.acl_store.specs.Fields as kept
-use Rattle.acl_store.specs.Fields.{One, Many, IsSmall, InRange, number_of}
+use Rattle.acl_store.specs.Fields.{One, Many, Any, Anys, IsSmall, InRange, number_of}
 
--- a field that a store keeps, in the layout of this number: its children have layouts of smaller numbers, its elements are
--- integers of its kind, and it is no hash field; objects of other kinds stand in no place yet
+-- the word may be what a field of the kind begins as
+abbrev pub IsInitial : Objects → Kind → Word → Type 0
+IsInitial h Byte w = IsSmall w × InRange Byte (number_of w)
+IsInitial h I32 w = IsSmall w × InRange I32 (number_of w)
+IsInitial h I64 w = IsSmall w × InRange I64 (number_of w)
+IsInitial h General w = Lies h w
+
+-- a field that a store keeps, in the layout of this number: its children have layouts of smaller numbers, its elements begin as
+-- what is of its kind, and it is no hash field
 abbrev pub IsField : Objects → ℕ → Field → Type 0
-IsField h k (fields.Scalar kind w) = IsSmall w × InRange kind (number_of w)
-IsField h k (fields.Array kind w n resizable) = IsSmall w × InRange kind (number_of w)
+IsField h k (fields.Scalar kind w) = IsInitial h kind w
+IsField h k (fields.Array kind w n resizable) = IsInitial h kind w
 IsField h k (fields.Hash test) = ⊥
 IsField h k (fields.Child c) = c.0 < k
 IsField h k (fields.Children c n) = c.0 < k
@@ -53,16 +61,21 @@ size_in [] k = None
 size_in (layout ∷ layouts) zero = Some (length layout.fields.items)
 size_in (layout ∷ layouts) (suc k) = size_in layouts k
 
-abbrev pub IsOne : Part kept.Field → Type 0
-IsOne (Own (One v)) = Unit {0}
-IsOne (Own (Many kind initial vs)) = ⊥
-IsOne (Child c) = ⊥
-IsOne (Children cs) = ⊥
+-- an integer, or an object of any kind where the kind is the general one
+abbrev pub IsOne : Kind → Part kept.Field → Type 0
+IsOne kind (Own (One v)) = kind ≢ General
+IsOne kind (Own (Many k initial vs)) = ⊥
+IsOne kind (Own (Any o)) = kind ≡ General
+IsOne kind (Own (Anys initial os)) = ⊥
+IsOne kind (Child c) = ⊥
+IsOne kind (Children cs) = ⊥
 
 -- an array of the kind with less than 2^32 elements; of n where it may not be resized
 abbrev pub IsArray : Kind → Word → ℕ → Bool → Part kept.Field → Type 0
 IsArray kind w n resizable (Own (One v)) = ⊥
-IsArray kind w n resizable (Own (Many k initial vs)) = (k ≡ kind) × (initial ≡ number_of w) × (length vs < 2 ^ 32) × (resizable ≡ false → length vs ≡ n)
+IsArray kind w n resizable (Own (Many k initial vs)) = (k ≡ kind) × (initial ≡ number_of w) × (length vs < 2 ^ 32) × (resizable ≡ false → length vs ≡ n) × (kind ≢ General)
+IsArray kind w n resizable (Own (Any o)) = ⊥
+IsArray kind w n resizable (Own (Anys initial os)) = (kind ≡ General) × (initial ≡ w) × (length os < 2 ^ 32) × (resizable ≡ false → length os ≡ n)
 IsArray kind w n resizable (Child c) = ⊥
 IsArray kind w n resizable (Children cs) = ⊥
 
@@ -82,7 +95,7 @@ AreObjects nodes k id n (Children cs) = (length cs ≡ n) × ((i c : ℕ) → sl
 
 -- a part of the node of number k is as the field of its layout says
 abbrev pub Matches : List (Node kept.Field) → ℕ → Field → Part kept.Field → Type 0
-Matches nodes k (fields.Scalar kind w) part = IsOne part
+Matches nodes k (fields.Scalar kind w) part = IsOne kind part
 Matches nodes k (fields.Array kind w n resizable) part = IsArray kind w n resizable part
 Matches nodes k (fields.Hash test) part = ⊥
 Matches nodes k (fields.Child c) part = IsStobj nodes k c.0 part

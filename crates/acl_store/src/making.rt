@@ -1,10 +1,9 @@
 //! New nodes.
-ghost use Rattle.std.specs.Prelude.{◌≡◌, ◌<◌, ◌^◌, length, map, replicate, slice_get, Some, IfOk};
+ghost use Rattle.std.specs.Prelude.{◌≡◌, ◌<◌, ◌^◌, length, map, slice_get, Some, IfOk};
 ghost use Rattle.acl_nodes.specs.Making.{Extends};
-ghost use Rattle.acl_nodes.specs.Nodes.{Own};
-ghost use Rattle.acl_store.specs.Fields.{InRange, IsSmall, Many, number_of};
-ghost use Rattle.acl_store.specs.Layouts.{AreLayouts, IsField};
-ghost use Rattle.acl_store.specs.Making.{ChildrenFor, NodeFor, PartFor, PartsFor};
+ghost use Rattle.acl_store.specs.Fields.{number_of};
+ghost use Rattle.acl_store.specs.Layouts.{AreLayouts, IsField, IsInitial};
+ghost use Rattle.acl_store.specs.Making.{ChildrenFor, NodeFor, PartFor, PartsFor, one_of, many_of};
 ghost use Rattle.acl_store.specs.Parts.{part_of};
 ghost use Rattle.acl_store.specs.Views.{view};
 
@@ -12,6 +11,7 @@ use crate::node::Node;
 use crate::slot::{Array, Slot, number};
 use acl_base::{Field, Kind, Layout, LayoutId, Word};
 use acl_heap::Heap;
+use acl_owned::{ObjectArray, OwnedObject};
 use std::alloc::{AllocError, Global};
 
 /// Pushes the nodes of an object, its own last.
@@ -83,9 +83,12 @@ fn make_slot(
     ensures kept { Extends (view nodes.old.items) (view nodes.new.items) }
 {
     match field {
-        Field::Scalar(_, w) => Ok(Slot::Scalar(number(w))),
+        Field::Scalar(kind, w) => {
+            let scalar = make_scalar(alloc, heap, kind, w)?;
+            Ok(scalar)
+        }
         Field::Array(kind, w, n, _) => {
-            let array = make_array(alloc, kind, w, n)?;
+            let array = make_array(alloc, heap, kind, w, n)?;
             Ok(array)
         }
         Field::Hash(_) => unreachable!(),
@@ -136,12 +139,27 @@ fn field_at(_heap: &Heap, _layouts: &[Layout], id: usize, layout: &Layout, f: us
     layout.fields[f]
 }
 
+// A scalar field.
+fn make_scalar(alloc: Global, heap: &Heap, kind: Kind, w: Word) -> Result<Slot, AllocError>
+    requires { IsInitial heap.now kind w }
+    ensures { IfOk result (λ s. part_of s ≡ one_of heap.now kind w) }
+{
+    match kind {
+        Kind::Byte => Ok(Slot::Scalar(number(w))),
+        Kind::I32 => Ok(Slot::Scalar(number(w))),
+        Kind::I64 => Ok(Slot::Scalar(number(w))),
+        Kind::General => {
+            let o = OwnedObject::put(alloc, heap, w)?;
+            Ok(Slot::General(o))
+        }
+    }
+}
+
 // An array of so many elements.
-fn make_array(alloc: Global, kind: Kind, w: Word, n: u32) -> Result<Slot, AllocError>
-    requires small { IsSmall w }
-    requires range { InRange kind (number_of w) }
+fn make_array(alloc: Global, heap: &Heap, kind: Kind, w: Word, n: u32) -> Result<Slot, AllocError>
+    requires { IsInitial heap.now kind w }
     ensures fits { IfOk result (λ _. n < 2 ^ 32) }
-    ensures array { IfOk result (λ s. part_of s ≡ Own (Many kind (number_of w) (replicate n (number_of w)))) }
+    ensures array { IfOk result (λ s. part_of s ≡ many_of heap.now kind w n) }
 {
     let initial = number(w);
     match kind {
@@ -157,6 +175,9 @@ fn make_array(alloc: Global, kind: Kind, w: Word, n: u32) -> Result<Slot, AllocE
             let array = Array::filled(alloc, n as usize, initial)?;
             Ok(Slot::Longs(array))
         }
-        Kind::General => unreachable!(),
+        Kind::General => {
+            let array = ObjectArray::filled(alloc, heap, w, n as usize)?;
+            Ok(Slot::Generals(array))
+        }
     }
 }

@@ -1,16 +1,20 @@
 //! What a journal notes.
 ghost use Rattle.std.specs.Prelude.{◌≡◌};
-ghost use Rattle.acl_store.specs.Fields.{IsElement};
+ghost use Rattle.acl_store.specs.Fields.{IsElement, IsHeld, with_held};
 ghost use Rattle.acl_store.specs.Journals.{IsNote, SuitsPart, back};
 ghost use Rattle.acl_store.specs.Parts.{part_of};
 
 use crate::slot::Slot;
+use acl_owned::OwnedObject;
+use std::mem::replace;
 
 /// What was in a field.
 #[derive(Drop)]
 pub enum OldPart {
     /// The element of this index of an array.
     Element(usize, i64),
+    /// The object of this index of an array.
+    Held(usize, OwnedObject),
     /// All of it.
     Whole(Slot),
 }
@@ -34,6 +38,27 @@ impl Slot {
             Slot::Bytes(a) => OldPart::Element(index, a.elements.get(index) as i64),
             Slot::Ints(a) => OldPart::Element(index, a.elements.get(index) as i64),
             Slot::Longs(a) => OldPart::Element(index, a.elements.get(index)),
+            Slot::General(_) => unreachable!(),
+            Slot::Generals(_) => unreachable!(),
+            Slot::Child(_) => unreachable!(),
+            Slot::Children(_) => unreachable!(),
+        }
+    }
+
+    /// Another object of this index, and a note of the one that was there. It takes no memory.
+    #[tactic(auto, using(crate::proofs::ObjectLemmas::held_note, crate::proofs::ObjectLemmas::any_note))]
+    pub fn exchange(&mut self, index: usize, o: OwnedObject) -> OldPart
+        requires { IsHeld (part_of self.old) index }
+        ensures held { part_of self.new ≡ with_held (part_of self.old) index o }
+        ensures noted { IsNote result (part_of self.old) index }
+    {
+        match self {
+            Slot::Scalar(_) => unreachable!(),
+            Slot::Bytes(_) => unreachable!(),
+            Slot::Ints(_) => unreachable!(),
+            Slot::Longs(_) => unreachable!(),
+            Slot::General(old) => OldPart::Whole(Slot::General(replace(old, o))),
+            Slot::Generals(a) => OldPart::Held(index, a.exchange(index, o)),
             Slot::Child(_) => unreachable!(),
             Slot::Children(_) => unreachable!(),
         }
@@ -46,6 +71,9 @@ impl Slot {
     {
         match part {
             OldPart::Element(index, value) => self.put(index, value),
+            OldPart::Held(index, o) => {
+                let _new = self.exchange(index, o);
+            }
             OldPart::Whole(slot) => *self = slot,
         }
     }

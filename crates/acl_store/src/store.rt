@@ -1,20 +1,23 @@
 //! `Store`.
-ghost use Rattle.std.specs.Prelude.{◌≡◌, ◌≤◌, [], ◌∷◌, ◌++◌, ◌<◌, length, reverse, take, true, false, IfOk, IfSome, OnOk, OnErr};
+ghost use Rattle.std.specs.Prelude.{◌≡◌, ◌≤◌, [], ◌∷◌, ◌++◌, ◌<◌, length, reverse, take, true, false, IfOk, IfSome, OnOk, OnErr, vec_len, vec_capacity};
+ghost use Rattle.acl_heap.specs.Objects.{object_of, Lies};
+ghost use Rattle.acl_heap.specs.Objects as objects;
 ghost use Rattle.acl_nodes.specs.Making.{Extends};
 ghost use Rattle.acl_nodes.specs.Nodes.{part_at};
-ghost use Rattle.acl_store.specs.Calls.{Creates, Cuts, Holds, IsArray, IsInline, IsMany, IsParent, IsPut, IsSizedTo, IsTyped, IsWord, Lends, Measures, Reads, Resizes, StayTyped, StayTypedIf, Writes};
+ghost use Rattle.acl_store.specs.Calls.{Creates, Cuts, Holds, IsArray, IsGeneral, IsInline, IsMany, IsObjectPut, IsParent, IsPut, IsSizedTo, IsTyped, IsWord, Lends, Measures, Reads, ReadsObject, Resizes, StayTyped, StayTypedIf, Writes, WritesObject};
 ghost use Rattle.acl_store.specs.Fields.{number_of};
-ghost use Rattle.acl_store.specs.Journals.{Begins, Fit, IsNote, MayBeWritten, NoteRemembers, Restores, StepsBack, WriteRemembers};
+ghost use Rattle.acl_store.specs.Journals.{Begins, CreateRemembers, CutRemembers, Fit, IsNote, IsNoted, IsNotedAt, MayBeWritten, NoteRemembers, ObjectRemembers, ResizeRemembers, Restores, StayWritable, StepsBack, WriteRemembers};
 ghost use Rattle.acl_store.specs.Layouts.{AreLayouts};
 ghost use Rattle.acl_store.specs.Parts.{path_in};
 ghost use Rattle.acl_store.specs.Views.{view};
 
 use crate::making::make;
 use crate::node::Node;
-use crate::notes::Old;
+use crate::notes::{Old, OldPart};
 use crate::slot::number;
 use acl_base::{Layout, LayoutId, NodeId, Word};
 use acl_heap::Heap;
+use acl_owned::OwnedObject;
 use std::alloc::{AllocError, Global};
 
 /// Live objects by the numbers of their nodes. Each node has one owner, and a child's number is below its parent's.
@@ -34,6 +37,8 @@ impl Store {
     pub fn new(alloc: Global) -> Store
         ensures empty { view result.nodes.items ≡ [] }
         ensures holds { Holds (view result.nodes.items) (record { roots = []; places = [] }) }
+        ensures closed { result.is_open ≡ false }
+        ensures notes { result.notes.items ≡ [] }
     {
         let nodes = Vec::new(alloc);
         let notes = Vec::new(alloc);
@@ -59,6 +64,7 @@ impl Store {
         ensures created { IfOk result (λ n. Creates heap.now layouts.now id.0 (view self.old.nodes.items) (view self.new.nodes.items) n.0) }
         ensures typed { IfOk result (λ n. IsTyped layouts.now id.0 (view self.old.nodes.items) (view self.new.nodes.items) n.0) }
         ensures behind { IfOk result (λ n. Extends (view self.old.nodes.items) (view self.new.nodes.items)) }
+        ensures remembers { IfOk result (λ n. CreateRemembers heap.now layouts.now id.0 (view self.old.nodes.items) (reverse self.old.notes.items) self.old.first (view self.new.nodes.items) n.0) }
         ensures refused { OnErr result (view self.new.nodes.items ≡ view self.old.nodes.items) }
         ensures notes { self.new.notes.items ≡ self.old.notes.items }
         ensures first { self.new.first ≡ self.old.first }
@@ -97,6 +103,110 @@ impl Store {
         self.nodes[n.0 as usize].put(field as usize, index as usize, number(w));
     }
 
+    /// Makes a copy of the object in a field in the heap.
+    pub fn read_general(
+        &self,
+        n: NodeId,
+        field: u32,
+        index: u32,
+        heap: &mut Heap,
+    ) -> Result<Word, AllocError>
+        requires { IsGeneral (view self.now.nodes.items) n.0 field index }
+        ensures grows { objects.Extends heap.old heap.new }
+        ensures ok { IfOk result (λ w. ReadsObject (view self.now.nodes.items) n.0 field index heap.new w) }
+    {
+        match self.nodes[n.0 as usize].copy_out(field as usize, index as usize, heap) {
+            Ok(w) => Ok(w),
+            Err(e) => Err(e),
+        }
+    }
+
+    /// Another object in a field. It is refused for want of memory alone, and changes nothing then.
+    /// On a node that was there when the journal was opened, the object that was in the field goes into the journal.
+    #[tactic(auto, using(crate::proofs::KeepLemmas::stay_self, crate::proofs::ObjectLemmas::stay_noted_at, crate::proofs::ObjectLemmas::writes_object, crate::proofs::ObjectLemmas::object_typed, crate::proofs::ObjectLemmas::object_local, crate::proofs::ObjectLemmas::object_noted))]
+    pub fn set_general(
+        &mut self,
+        n: NodeId,
+        field: u32,
+        index: u32,
+        heap: &Heap,
+        w: Word,
+    ) -> Result<(), AllocError>
+        requires general { IsGeneral (view self.old.nodes.items) n.0 field index }
+        requires word { Lies heap.now w }
+        ensures written { OnOk result (WritesObject (view self.old.nodes.items) n.0 field index (object_of heap.now w) (view self.new.nodes.items)) }
+        ensures put { OnOk result (IsObjectPut (view self.old.nodes.items) n.0 field index (object_of heap.now w) (view self.new.nodes.items)) }
+        ensures typed { OnOk result (StayTyped (view self.old.nodes.items) (view self.new.nodes.items)) }
+        ensures remembers { OnOk result (self.old.is_open ≡ true → ObjectRemembers (view self.old.nodes.items) (reverse self.old.notes.items) self.old.first n.0 field index (object_of heap.now w) (view self.new.nodes.items) (reverse self.new.notes.items)) }
+        ensures writable { StayWritable (reverse self.old.notes.items) self.old.first (reverse self.new.notes.items) }
+        ensures refused { OnErr result (view self.new.nodes.items ≡ view self.old.nodes.items) }
+        ensures unnoted { OnErr result (self.new.notes.items ≡ self.old.notes.items) }
+        ensures notes { self.old.is_open ≡ false → self.new.notes.items ≡ self.old.notes.items }
+        ensures first { self.new.first ≡ self.old.first }
+        ensures open { self.new.is_open ≡ self.old.is_open }
+    {
+        let o = OwnedObject::put(self.alloc, heap, w)?;
+        if self.is_remembered(n) {
+            match self.set_noted(n, field, index, o) {
+                Ok(()) => Ok(()),
+                Err(e) => Err(e),
+            }
+        } else {
+            self.set_local(n, field, index, o);
+            Ok(())
+        }
+    }
+
+    // Another object in a field.
+    fn set_local(&mut self, n: NodeId, field: u32, index: u32, o: OwnedObject)
+        requires { IsGeneral (view self.old.nodes.items) n.0 field index }
+        ensures put { IsObjectPut (view self.old.nodes.items) n.0 field index o (view self.new.nodes.items) }
+        ensures notes { self.new.notes.items ≡ self.old.notes.items }
+        ensures first { self.new.first ≡ self.old.first }
+        ensures open { self.new.is_open ≡ self.old.is_open }
+    {
+        self.nodes[n.0 as usize].exchange(field as usize, index as usize, o);
+    }
+
+    // The same, and the object that was there goes into the journal.
+    fn set_noted(
+        &mut self,
+        n: NodeId,
+        field: u32,
+        index: u32,
+        o: OwnedObject,
+    ) -> Result<(), AllocError>
+        requires { IsGeneral (view self.old.nodes.items) n.0 field index }
+        ensures put { OnOk result (IsObjectPut (view self.old.nodes.items) n.0 field index o (view self.new.nodes.items)) }
+        ensures noted { OnOk result (IsNotedAt (view self.old.nodes.items) n.0 field index self.old.notes.items self.new.notes.items) }
+        ensures refused { OnErr result (view self.new.nodes.items ≡ view self.old.nodes.items) }
+        ensures unnoted { OnErr result (self.new.notes.items ≡ self.old.notes.items) }
+        ensures first { self.new.first ≡ self.old.first }
+        ensures open { self.new.is_open ≡ self.old.is_open }
+    {
+        match self.notes.reserve(1) {
+            Ok(()) => {
+                self.swap_noted(n, field, index, o);
+                Ok(())
+            }
+            Err(e) => Err(e),
+        }
+    }
+
+    // The same, where there is room for the note.
+    fn swap_noted(&mut self, n: NodeId, field: u32, index: u32, o: OwnedObject)
+        requires general { IsGeneral (view self.old.nodes.items) n.0 field index }
+        requires room { vec_len self.old.notes < vec_capacity self.old.notes }
+        ensures put { IsObjectPut (view self.old.nodes.items) n.0 field index o (view self.new.nodes.items) }
+        ensures noted { IsNotedAt (view self.old.nodes.items) n.0 field index self.old.notes.items self.new.notes.items }
+        ensures first { self.new.first ≡ self.old.first }
+        ensures open { self.new.is_open ≡ self.old.is_open }
+    {
+        let node = &mut self.nodes[n.0 as usize];
+        let old = node.exchange(field as usize, index as usize, o);
+        self.keep(n, field, old);
+    }
+
     /// The number of elements or children.
     pub fn length(&self, n: NodeId, field: u32) -> u32
         requires { IsMany (view self.now.nodes.items) n.0 field }
@@ -114,25 +224,109 @@ impl Store {
     }
 
     /// Cuts an array, or lengthens it with what its elements began as. It is refused for want of memory alone, and changes nothing then.
-    pub fn resize(
+    /// An array that was there when the journal was opened goes into the journal, and a copy takes its place.
+    #[tactic(auto, using(crate::proofs::KeepLemmas::stay_self, crate::proofs::KeepLemmas::stay_noted, crate::proofs::KeepLemmas::sizes_local, crate::proofs::KeepLemmas::sizes_noted, crate::proofs::StoreLemmas::resizes, crate::proofs::StoreLemmas::size_typed))]
+    pub fn resize(&mut self, n: NodeId, field: u32, len: u32, heap: &Heap) -> Result<(), AllocError>
+        requires { IsArray heap.now (view self.old.nodes.items) n.0 field }
+        ensures elements { OnOk result (Resizes heap.now (view self.old.nodes.items) n.0 field len (view self.new.nodes.items)) }
+        ensures sized { OnOk result (IsSizedTo heap.now (view self.old.nodes.items) n.0 field len (view self.new.nodes.items)) }
+        ensures typed { OnOk result (StayTypedIf n.0 field (view self.old.nodes.items) (view self.new.nodes.items)) }
+        ensures remembers { OnOk result (self.old.is_open ≡ true → ResizeRemembers heap.now (view self.old.nodes.items) (reverse self.old.notes.items) self.old.first n.0 field len (view self.new.nodes.items) (reverse self.new.notes.items)) }
+        ensures writable { StayWritable (reverse self.old.notes.items) self.old.first (reverse self.new.notes.items) }
+        ensures refused { OnErr result (view self.new.nodes.items ≡ view self.old.nodes.items) }
+        ensures unnoted { OnErr result (self.new.notes.items ≡ self.old.notes.items) }
+        ensures notes { self.old.is_open ≡ false → self.new.notes.items ≡ self.old.notes.items }
+        ensures first { self.new.first ≡ self.old.first }
+        ensures open { self.new.is_open ≡ self.old.is_open }
+    {
+        if self.is_remembered(n) {
+            match self.resize_noted(n, field, len, heap) {
+                Ok(()) => Ok(()),
+                Err(e) => Err(e),
+            }
+        } else {
+            match self.resize_local(n, field, len, heap) {
+                Ok(()) => Ok(()),
+                Err(e) => Err(e),
+            }
+        }
+    }
+
+    // Whether the journal is open, and the node is older than that.
+    fn is_remembered(&self, n: NodeId) -> bool
+        ensures open { result ≡ true → self.now.is_open ≡ true }
+        ensures older { result ≡ true → n.0 < self.now.first }
+        ensures local { result ≡ false → self.now.is_open ≡ true → self.now.first ≤ n.0 }
+    {
+        if self.is_open {
+            return (n.0 as usize) < self.first;
+        }
+        false
+    }
+
+    // Cuts an array, or lengthens it.
+    fn resize_local(
         &mut self,
         n: NodeId,
         field: u32,
         len: u32,
-        _heap: &Heap,
+        heap: &Heap,
     ) -> Result<(), AllocError>
-        requires { IsArray (view self.old.nodes.items) n.0 field }
-        ensures elements { OnOk result (Resizes (view self.old.nodes.items) n.0 field len (view self.new.nodes.items)) }
-        ensures sized { OnOk result (IsSizedTo (view self.old.nodes.items) n.0 field len (view self.new.nodes.items)) }
-        ensures typed { OnOk result (StayTypedIf n.0 field (view self.old.nodes.items) (view self.new.nodes.items)) }
+        requires { IsArray heap.now (view self.old.nodes.items) n.0 field }
+        ensures sized { OnOk result (IsSizedTo heap.now (view self.old.nodes.items) n.0 field len (view self.new.nodes.items)) }
         ensures refused { OnErr result (view self.new.nodes.items ≡ view self.old.nodes.items) }
         ensures notes { self.new.notes.items ≡ self.old.notes.items }
         ensures first { self.new.first ≡ self.old.first }
         ensures open { self.new.is_open ≡ self.old.is_open }
     {
-        match self.nodes[n.0 as usize].stretch(field as usize, len as usize) {
+        match self.nodes[n.0 as usize].stretch(self.alloc, heap, field as usize, len as usize) {
             Ok(()) => Ok(()),
             Err(e) => Err(e),
+        }
+    }
+
+    // The same, and the old array goes into the journal.
+    fn resize_noted(
+        &mut self,
+        n: NodeId,
+        field: u32,
+        len: u32,
+        heap: &Heap,
+    ) -> Result<(), AllocError>
+        requires { IsArray heap.now (view self.old.nodes.items) n.0 field }
+        ensures sized { OnOk result (IsSizedTo heap.now (view self.old.nodes.items) n.0 field len (view self.new.nodes.items)) }
+        ensures noted { OnOk result (IsNoted (view self.old.nodes.items) n.0 field self.old.notes.items self.new.notes.items) }
+        ensures refused { OnErr result (view self.new.nodes.items ≡ view self.old.nodes.items) }
+        ensures unnoted { OnErr result (self.new.notes.items ≡ self.old.notes.items) }
+        ensures first { self.new.first ≡ self.old.first }
+        ensures open { self.new.is_open ≡ self.old.is_open }
+    {
+        self.notes.reserve(1)?;
+        match self.nodes[n.0 as usize].renew(self.alloc, heap, field as usize, len as usize) {
+            Ok(slot) => {
+                self.keep(n, field, OldPart::Whole(slot));
+                Ok(())
+            }
+            Err(e) => Err(e),
+        }
+    }
+
+    // Puts a note behind the others, for which there is room.
+    fn keep(&mut self, n: NodeId, field: u32, part: OldPart)
+        requires { vec_len self.old.notes < vec_capacity self.old.notes }
+        ensures noted { self.new.notes.items ≡ self.old.notes.items ++ record { node = n.0; field = field; part = part } ∷ [] }
+        ensures nodes { self.new.nodes.items ≡ self.old.nodes.items }
+        ensures first { self.new.first ≡ self.old.first }
+        ensures open { self.new.is_open ≡ self.old.is_open }
+    {
+        let old = Old {
+            node: n.0 as usize,
+            field: field as usize,
+            part,
+        };
+        match self.notes.push(old) {
+            Ok(()) => {}
+            Err(_) => unreachable!(),
         }
     }
 
@@ -148,6 +342,7 @@ impl Store {
         requires { m.0 ≤ length (view self.old.nodes.items) }
         ensures nodes { view self.new.nodes.items ≡ take m.0 (view self.old.nodes.items) }
         ensures cut { Cuts (view self.old.nodes.items) m.0 (view self.new.nodes.items) }
+        ensures remembers { CutRemembers (view self.old.nodes.items) (reverse self.old.notes.items) self.old.first m.0 (view self.new.nodes.items) }
         ensures typed { StayTyped (view self.old.nodes.items) (view self.new.nodes.items) }
         ensures notes { self.new.notes.items ≡ self.old.notes.items }
         ensures first { self.new.first ≡ self.old.first }
@@ -164,6 +359,7 @@ impl Store {
         ensures nodes { self.new.nodes.items ≡ self.old.nodes.items }
         ensures first { self.new.first ≡ length (view self.new.nodes.items) }
         ensures begins { Begins (view self.new.nodes.items) (reverse self.new.notes.items) self.new.first }
+        ensures notes { self.new.notes.items ≡ [] }
     {
         self.notes.truncate(0);
         self.first = self.nodes.len();
@@ -185,7 +381,7 @@ impl Store {
     }
 
     /// Notes the integer in a field, so that it may be written. On a node that was made since the journal was opened it notes nothing.
-    #[tactic(auto, using(crate::proofs::JournalLemmas::notes_self, crate::proofs::JournalLemmas::notes_keep, crate::proofs::JournalLemmas::local_may))]
+    #[tactic(auto, using(crate::proofs::JournalLemmas::notes_self, crate::proofs::JournalLemmas::notes_keep, crate::proofs::JournalLemmas::local_may, crate::proofs::KeepLemmas::stay_self, crate::proofs::KeepLemmas::stay_pushed))]
     pub fn note_inline(&mut self, n: NodeId, field: u32, index: u32) -> Result<(), AllocError>
         requires open { self.old.is_open ≡ true }
         requires inline { IsInline (view self.old.nodes.items) n.0 field index }
@@ -194,6 +390,7 @@ impl Store {
         ensures first { self.new.first ≡ self.old.first }
         ensures noted { OnOk result (IfSome (part_at (view self.old.nodes.items) n.0 field) (λ p. MayBeWritten (reverse self.new.notes.items) self.new.first n.0 (path_in p field index))) }
         ensures remembers { NoteRemembers (view self.old.nodes.items) (reverse self.old.notes.items) self.old.first (reverse self.new.notes.items) }
+        ensures writable { StayWritable (reverse self.old.notes.items) self.old.first (reverse self.new.notes.items) }
     {
         if n.0 as usize >= self.first {
             return Ok(());
@@ -222,6 +419,7 @@ impl Store {
         requires { self.old.is_open ≡ true }
         ensures closed { self.new.is_open ≡ false }
         ensures nodes { self.new.nodes.items ≡ self.old.nodes.items }
+        ensures notes { self.new.notes.items ≡ [] }
     {
         self.notes.truncate(0);
         self.is_open = false;

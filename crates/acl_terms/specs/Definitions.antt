@@ -3,12 +3,12 @@ use Rattle.std.specs.Prelude.{◌≡◌, ℕ, ◌≤◌, ◌<◌, List, map, max
 use Rattle.acl_heap.specs.Objects.{Objects, object_of, reach}
 use Rattle.model_prims.specs.Rows.{Row, table, no_row, arity_of}
 use Rattle.model_terms.specs.Worlds as worlds
-use Rattle.acl_terms.specs.declared.object.Shape.{Shape}
-use Rattle.acl_terms.specs.declared.object.Shape.TheVariants as shape
-use Rattle.acl_terms.specs.declared.object.FieldDescriptor.{FieldDescriptor}
-use Rattle.acl_terms.specs.declared.object.Descriptor.{Descriptor}
-use Rattle.acl_terms.specs.declared.object.AbsFunction.{AbsFunction}
-use Rattle.acl_terms.specs.declared.object.AbsDescriptor.{AbsDescriptor}
+use Rattle.acl_terms.specs.declared.stobj.Shape.{Shape}
+use Rattle.acl_terms.specs.declared.stobj.Shape.TheVariants as shape
+use Rattle.acl_terms.specs.declared.stobj.FieldDescriptor.{FieldDescriptor}
+use Rattle.acl_terms.specs.declared.stobj.Descriptor.{Descriptor}
+use Rattle.acl_terms.specs.declared.stobj.AbsFunction.{AbsFunction}
+use Rattle.acl_terms.specs.declared.stobj.AbsDescriptor.{AbsDescriptor}
 use Rattle.acl_terms.specs.declared.definition.OptionalFormal.{OptionalFormal}
 use Rattle.acl_terms.specs.declared.definition.MacroFormals.{MacroFormals}
 use Rattle.acl_terms.specs.declared.definition.Function.{Function}
@@ -25,8 +25,8 @@ abbrev pub seen_shape : Objects → Shape → worlds.Shape
 seen_shape h (shape.Scalar spec initial) = worlds.Scalar (object_of h spec) (object_of h initial)
 seen_shape h (shape.Array spec initial len resizable) = worlds.Array (object_of h spec) (object_of h initial) len resizable
 seen_shape h (shape.Hash test) = worlds.Hash test
-seen_shape h (shape.Child object) = worlds.Child object.0
-seen_shape h (shape.Children object len) = worlds.Children object.0 len
+seen_shape h (shape.Child stobj) = worlds.Child stobj.0
+seen_shape h (shape.Children stobj len) = worlds.Children stobj.0 len
 
 abbrev pub seen_field : Objects → FieldDescriptor → worlds.Field
 seen_field h f = record { name = f.name.0; shape = seen_shape h f.shape; made = numbers f.made }
@@ -86,12 +86,12 @@ seen_function h f = record {
 }
 
 abbrev pub seen_generated : GeneratedFunction → worlds.GeneratedFunction
-seen_generated f = record { name = f.name.0; object = f.object.0; field = f.field; role = f.role; signature = seen_signature f.signature }
+seen_generated f = record { name = f.name.0; stobj = f.stobj.0; field = f.field; role = f.role; signature = seen_signature f.signature }
 
 abbrev pub seen_of_abstract : Objects → AbstractFunction → worlds.FunctionOfAbstract
 seen_of_abstract h f = record {
   name = f.name.0;
-  object = f.object.0;
+  stobj = f.stobj.0;
   role = f.role;
   formals = numbers f.formals;
   signature = seen_signature f.signature;
@@ -151,8 +151,8 @@ abbrev pub shape_reach : Shape → ℕ
 shape_reach (shape.Scalar spec initial) = max (reach spec) (reach initial)
 shape_reach (shape.Array spec initial len resizable) = max (reach spec) (reach initial)
 shape_reach (shape.Hash test) = 0
-shape_reach (shape.Child object) = 0
-shape_reach (shape.Children object len) = 0
+shape_reach (shape.Child stobj) = 0
+shape_reach (shape.Children stobj len) = 0
 
 abbrev pub descriptor_reach : Descriptor → ℕ
 descriptor_reach d = most (map (λ (f : FieldDescriptor). shape_reach f.shape) d.fields)

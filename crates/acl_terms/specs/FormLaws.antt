@@ -29,10 +29,10 @@ module _ (h : Objects) where
   pub seen_mv_let : (names : List SymId) (a b : Core) → seen_core h (views.MvLet names a b) ≡ cores.MvLet (numbers names) (seen_core h a) (seen_core h b)
   seen_mv_let names a b = ap (seen_core h) (sym (variants.rolls-MvLet names a b)) ∙ fold-roll-Core cores.Core (layer_core h) (layer.MvLet names a b)
 
-  pub seen_with_local : (object : SymId) (names : List SymId) (a b : Core)
-      → seen_core h (views.WithLocal object names a b) ≡ cores.WithLocal object.0 (numbers names) (seen_core h a) (seen_core h b)
-  seen_with_local object names a b =
-      ap (seen_core h) (sym (variants.rolls-WithLocal object names a b)) ∙ fold-roll-Core cores.Core (layer_core h) (layer.WithLocal object names a b)
+  pub seen_with_local : (stobj : SymId) (names : List SymId) (a b : Core)
+      → seen_core h (views.WithLocal stobj names a b) ≡ cores.WithLocal stobj.0 (numbers names) (seen_core h a) (seen_core h b)
+  seen_with_local stobj names a b =
+      ap (seen_core h) (sym (variants.rolls-WithLocal stobj names a b)) ∙ fold-roll-Core cores.Core (layer_core h) (layer.WithLocal stobj names a b)
 
   pub seen_must_be_equal : (a b : Core) → seen_core h (views.MustBeEqual a b) ≡ cores.MustBeEqual (seen_core h a) (seen_core h b)
   seen_must_be_equal a b = ap (seen_core h) (sym (variants.rolls-MustBeEqual a b)) ∙ fold-roll-Core cores.Core (layer_core h) (layer.MustBeEqual a b)

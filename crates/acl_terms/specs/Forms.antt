@@ -27,7 +27,7 @@ layer_core h (layer.Let bindings body) = cores.Let (bound_names bindings) (cores
 layer_core h (layer.Mv parts) = cores.Mv (cores.cores parts)
 layer_core h (layer.MvLet names bound body) = cores.MvLet (numbers names) bound body
 layer_core h (layer.StobjLet bindings vars producer consumer) = cores.StobjLet (bound_names bindings) (cores.cores (bound_parts bindings)) (numbers vars) producer consumer
-layer_core h (layer.WithLocal object names producer body) = cores.WithLocal object.0 (numbers names) producer body
+layer_core h (layer.WithLocal stobj names producer body) = cores.WithLocal stobj.0 (numbers names) producer body
 layer_core h (layer.MustBeEqual logic exec) = cores.MustBeEqual logic exec
 layer_core h (layer.Call f parts) = cores.Call f.0 (cores.cores parts)
 
@@ -58,7 +58,7 @@ layer_reach (layer.Let bindings body) = max (most (bound_parts bindings)) body
 layer_reach (layer.Mv parts) = most parts
 layer_reach (layer.MvLet names bound body) = max bound body
 layer_reach (layer.StobjLet bindings vars producer consumer) = max (most (bound_parts bindings)) (max producer consumer)
-layer_reach (layer.WithLocal object names producer body) = max producer body
+layer_reach (layer.WithLocal stobj names producer body) = max producer body
 layer_reach (layer.MustBeEqual logic exec) = max logic exec
 layer_reach (layer.Call f parts) = most parts
 

@@ -5,10 +5,10 @@ use Rattle.acl_base.specs.declared.SymId.{SymId}
 use Rattle.acl_heap.specs.Objects.{Objects, object_of, reach, Extends}
 use Rattle.model_terms.specs.Cores as cores
 use Rattle.model_terms.specs.Worlds as worlds
-use Rattle.acl_terms.specs.declared.object.Shape.{Shape}
-use Rattle.acl_terms.specs.declared.object.Shape.TheVariants as shape
-use Rattle.acl_terms.specs.declared.object.FieldDescriptor.{FieldDescriptor}
-use Rattle.acl_terms.specs.declared.object.Descriptor.{Descriptor}
+use Rattle.acl_terms.specs.declared.stobj.Shape.{Shape}
+use Rattle.acl_terms.specs.declared.stobj.Shape.TheVariants as shape
+use Rattle.acl_terms.specs.declared.stobj.FieldDescriptor.{FieldDescriptor}
+use Rattle.acl_terms.specs.declared.stobj.Descriptor.{Descriptor}
 use Rattle.acl_terms.specs.declared.definition.OptionalFormal.{OptionalFormal}
 use Rattle.acl_terms.specs.declared.definition.MacroFormals.{MacroFormals}
 use Rattle.acl_terms.specs.declared.definition.Definition.{Definition}
@@ -53,7 +53,7 @@ module _ {h h' : Objects} (e : Extends h h') where
   layer_kept (layer.MvLet names bound body) l = rw (bound.1 (omega (arith, l)), body.1 (omega (arith, l))) refl
   layer_kept (layer.StobjLet bindings vars producer consumer) l =
       rw (let_kept bindings (omega (arith, l)), producer.1 (omega (arith, l)), consumer.1 (omega (arith, l))) refl
-  layer_kept (layer.WithLocal object names producer body) l = rw (producer.1 (omega (arith, l)), body.1 (omega (arith, l))) refl
+  layer_kept (layer.WithLocal stobj names producer body) l = rw (producer.1 (omega (arith, l)), body.1 (omega (arith, l))) refl
   layer_kept (layer.MustBeEqual logic exec) l = rw (logic.1 (omega (arith, l)), exec.1 (omega (arith, l))) refl
   layer_kept (layer.Call f parts) l = ap (λ fs. cores.Call f.0 (cores.cores fs)) (parts_kept parts l)
 
@@ -72,8 +72,8 @@ module _ {h h' : Objects} (e : Extends h h') where
   shape_kept (shape.Scalar spec initial) l = rw (e.same spec (omega (arith, l)), e.same initial (omega (arith, l))) refl
   shape_kept (shape.Array spec initial len resizable) l = rw (e.same spec (omega (arith, l)), e.same initial (omega (arith, l))) refl
   shape_kept (shape.Hash test) l = refl
-  shape_kept (shape.Child object) l = refl
-  shape_kept (shape.Children object len) l = refl
+  shape_kept (shape.Child stobj) l = refl
+  shape_kept (shape.Children stobj len) l = refl
 
   fields_kept : (fs : List FieldDescriptor) → most (map (λ (f : FieldDescriptor). shape_reach f.shape) fs) ≤ length h → map (seen_field h') fs ≡ map (seen_field h) fs
   fields_kept [] l = refl
@@ -110,7 +110,7 @@ module _ {h h' : Objects} (e : Extends h h') where
   seen_definitions-later (d ∷ ds) l = rw (seen_definition-later d (omega (arith, l)), seen_definitions-later ds (omega (arith, l))) refl
 
 -- a definition has in every heap the name that it has
-pub seen-name : (h : Objects) (d : Definition) → worlds.name_of (seen_definition h d) ≡ name_in d
+pub seen-name : (h : Objects) (d : Definition) → worlds.definition_name (seen_definition h d) ≡ name_in d
 seen-name h (definition.Primitive name row arity) = refl
 seen-name h (definition.Function f) = refl
 seen-name h (definition.Macro m) = refl

@@ -28,8 +28,8 @@ pub record AreSeen : Type 0 where
   pub mv_let : (h : Objects) (names : List SymId) (a b : Core) → seen_core h (views.MvLet names a b) ≡ cores.MvLet (numbers names) (seen_core h a) (seen_core h b)
   pub stobj_let : (h : Objects) (bs : List (SymId × Core)) (vars : List SymId) (p c : Core)
       → seen_core h (views.StobjLet bs vars p c) ≡ cores.StobjLet (bound_names bs) (cores.cores (seen_bound h bs)) (numbers vars) (seen_core h p) (seen_core h c)
-  pub with_local : (h : Objects) (object : SymId) (names : List SymId) (a b : Core)
-      → seen_core h (views.WithLocal object names a b) ≡ cores.WithLocal object.0 (numbers names) (seen_core h a) (seen_core h b)
+  pub with_local : (h : Objects) (stobj : SymId) (names : List SymId) (a b : Core)
+      → seen_core h (views.WithLocal stobj names a b) ≡ cores.WithLocal stobj.0 (numbers names) (seen_core h a) (seen_core h b)
   pub must_be_equal : (h : Objects) (a b : Core) → seen_core h (views.MustBeEqual a b) ≡ cores.MustBeEqual (seen_core h a) (seen_core h b)
   pub call : (h : Objects) (f : SymId) (parts : List Core) → seen_core h (views.Call f parts) ≡ cores.Call f.0 (cores.cores (seen_cores h parts))
-  pub name : (h : Objects) (d : Definition) → worlds.name_of (seen_definition h d) ≡ name_in d
+  pub name : (h : Objects) (d : Definition) → worlds.definition_name (seen_definition h d) ≡ name_in d

@@ -4,8 +4,8 @@ ghost use Rattle.std.specs.Prelude.{◌≡◌};
 ghost use Rattle.acl_terms.specs.Definitions.{name_in};
 
 use crate::form::Core;
-use crate::object::{AbsDescriptor, Descriptor};
 use crate::signature::Signature;
+use crate::stobj::{AbsDescriptor, Descriptor};
 use acl_base::{LayoutId, SymId, TermId, Word};
 use model_terms::{AbstractRole, Role};
 use sqlite_items::Items;
@@ -59,7 +59,7 @@ pub struct Macro {
 #[derive(Debug, Drop)]
 pub struct GeneratedFunction {
     pub name: SymId,
-    pub object: SymId,
+    pub stobj: SymId,
     /// The number of its field, where it is a function of one.
     pub field: Option<u32>,
     pub role: Role,
@@ -70,7 +70,7 @@ pub struct GeneratedFunction {
 #[derive(Debug, Drop)]
 pub struct AbstractFunction {
     pub name: SymId,
-    pub object: SymId,
+    pub stobj: SymId,
     pub role: AbstractRole,
     pub formals: Items<SymId>,
     pub signature: Signature,

@@ -26,7 +26,7 @@ pub enum Core {
     },
     WithLocal {
         /// The object that is made.
-        object: SymId,
+        stobj: SymId,
         /// The names that the producer gives.
         names: Items<SymId>,
         producer: Boxed<Core>,

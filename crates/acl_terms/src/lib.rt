@@ -7,10 +7,10 @@ ghost use Rattle.acl_terms.specs.Laws.{IsKept, AreSeen};
 mod definition;
 mod fault;
 mod form;
-mod object;
 mod outcome;
 mod scope;
 mod signature;
+mod stobj;
 
 pub use definition::{
     AbstractFunction, Definition, Function, GeneratedFunction, Macro, MacroFormals, OptionalFormal,
@@ -18,10 +18,10 @@ pub use definition::{
 pub use fault::{AbsFault, DefFault, ExpandFault, Place, ThreadFault};
 pub use form::Core;
 pub use model_terms::{AbstractRole, Mode, Role, Rule};
-pub use object::{AbsDescriptor, AbsFunction, Descriptor, FieldDescriptor, Shape};
 pub use outcome::{Outcome, Shown, Stop};
 pub use scope::Scope;
 pub use signature::{Entry, Out, Signature};
+pub use stobj::{AbsDescriptor, AbsFunction, Descriptor, FieldDescriptor, Shape};
 
 /// As a heap grows, what forms and definitions stand for is kept.
 #[tactic(auto, using(crate::proofs::LawLemmas::is_kept))]

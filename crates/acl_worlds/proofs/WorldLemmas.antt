@@ -80,7 +80,7 @@ within_names (d ∷ ds) (suc n) x h = let l : n < length ds = within_names ds n 
 
 -- ---- in a heap
 
-pub seen_names : (h : Objects) (ds : List Definition) → map worlds.name_of (seen_definitions h ds) ≡ names_in ds
+pub seen_names : (h : Objects) (ds : List Definition) → map worlds.definition_name (seen_definitions h ds) ≡ names_in ds
 seen_names h [] = refl
 seen_names h (d ∷ ds) = rw (seen-name h d, seen_names h ds) refl
 
@@ -96,7 +96,7 @@ get_there h ds (Some n) = get_map (seen_definition h) ds n
 -- the definition of a name is the one that stands at its number
 pub definition_at : (h : Objects) (w : Content) (x : ℕ) → worlds.definition (seen_world h w) x ≡ option_map (seen_definition h) (option_and_then (slice_get w.definitions) (number_of w x))
 definition_at h w x =
-    found_at worlds.name_of x (seen_world h w)
+    found_at worlds.definition_name x (seen_world h w)
     ∙ (ap (λ ns. option_and_then (slice_get (seen_world h w)) (position (nat_eq x) ns)) (seen_names h w.definitions)
     ∙ get_there h w.definitions (number_of w x))
 

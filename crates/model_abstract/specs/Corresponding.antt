@@ -1,4 +1,5 @@
--- When the lists of objects in checked evaluation and those in abstract evaluation correspond.
+-- When the lists of stobjs in checked evaluation and those in abstract evaluation correspond (ACL2's manual, topic
+-- DEFABSSTOBJ).
 use Rattle.std.specs.Prelude.{◌≡◌, ℕ, ◌<◌, length, List, [], ◌∷◌, map, true, false, Option, Some, None}
 use Rattle.model_objects.specs.Object.{Object, Symbol}
 use Rattle.model_objects.specs.Named.{Symbols}
@@ -8,10 +9,10 @@ use Rattle.model_prims.specs.Kinds.{by_name, by_number, is_nil}
 use Rattle.model_prims.specs.declared.prim.Prim.{Prim}
 use Rattle.model_lists.specs.Lists.{StobjList, Value, Pairs, End, Item, as_object}
 use Rattle.model_lists.specs.Layouts.{recognizes}
-use Rattle.model_lists.specs.Standing.{HasFields, ListSymbols}
+use Rattle.model_lists.specs.LiveLists.{HasFields, ListSymbols}
 use Rattle.model_terms.specs.Worlds.{Definition, AbstractDescriptor, definition, Primitive, Defined, Macro, Constant, Concrete, Generated, Abstract, OfAbstract, Named, Signed}
 use Rattle.model_eval.specs.Outcomes.{Stobjs}
-use Rattle.model_eval.specs.Worlds.{stobj_layout}
+use Rattle.model_eval.specs.StobjLayouts.{stobj_layout}
 use Rattle.model_logic.specs.Logic.{Theory, Thing, CallEndsWith}
 
 -- a list with its symbols by name
@@ -25,11 +26,11 @@ named_list symbols (Item first rest) = Item (named_list symbols first) (named_li
 abbrev pub CallHolds : Theory → ℕ → List Thing → Type 0
 CallHolds b name args = (v : Thing) × CallEndsWith b name args v × (is_nil by_name v ≡ false)
 
--- a list that an object of this name may have: it has the fields of the object's layout, it is what the recognizer wants,
+-- a list that a stobj of this name may have: it has the fields of the stobj's layout, it is what the recognizer wants,
 -- and its symbols are known
-pub record Fits (b : Theory) (object : ℕ) (l : StobjList ℕ) : Type 0 where
-  pub fields : HasFields (stobj_layout (λ (o : Object ℕ). o) b.world object) l
-  pub recognized : recognizes by_number (stobj_layout (λ (o : Object ℕ). o) b.world object) (as_object by_number l) ≡ true
+pub record Fits (b : Theory) (stobj : ℕ) (l : StobjList ℕ) : Type 0 where
+  pub fields : HasFields (stobj_layout (λ (o : Object ℕ). o) b.world stobj) l
+  pub recognized : recognizes by_number (stobj_layout (λ (o : Object ℕ). o) b.world stobj) (as_object by_number l) ≡ true
   pub known : ListSymbols (λ s. s < length b.symbols) l
 
 -- a package of this name is known
@@ -44,11 +45,11 @@ pub record IsAbstracted (b : Theory) (d : AbstractDescriptor) (c : StobjList ℕ
   pub well_formed : CallEndsWith b d.recognizer.logic (as_object by_name a ∷ []) (Symbol truth_name)
   pub homes : Symbols (HasPackage b) (as_object by_name a)
 
-pub record IsConcrete (b : Theory) (object : ℕ) (c : StobjList ℕ) (a : StobjList QualifiedName) : Type 0 where
-  pub fits : Fits b object c
+pub record IsConcrete (b : Theory) (stobj : ℕ) (c : StobjList ℕ) (a : StobjList QualifiedName) : Type 0 where
+  pub fits : Fits b stobj c
   pub equal : named_list b.symbols c ≡ a
 
--- the list of an object in checked evaluation, and that in abstract evaluation
+-- the list of a stobj in checked evaluation, and that in abstract evaluation
 abbrev pub CorrespondAs : Theory → ℕ → Option Definition → StobjList ℕ → StobjList QualifiedName → Type 0
 CorrespondAs b x None c a = ⊥
 CorrespondAs b x (Some (Primitive name row)) c a = ⊥
@@ -62,7 +63,7 @@ CorrespondAs b x (Some (OfAbstract f)) c a = ⊥
 CorrespondAs b x (Some (Named name formals)) c a = ⊥
 CorrespondAs b x (Some (Signed name formals signature executable)) c a = ⊥
 
--- the lists of the same objects, one after another
+-- the lists of the same stobjs, one after another
 abbrev pub Correspond : Theory → Stobjs ℕ → Stobjs QualifiedName → Type 0
 Correspond b [] [] = Unit {0}
 Correspond b [] (a ∷ others) = ⊥

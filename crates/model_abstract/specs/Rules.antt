@@ -1,5 +1,6 @@
--- Abstract evaluation: as checked evaluation, but an abstract object is its abstract list, an export gives the values of its
--- logic function, nothing inside an export is counted, and symbols are named and have no limit.
+-- Abstract evaluation: as checked evaluation, but an abstract stobj is its abstract list, an export gives the values of its
+-- logic function, nothing inside an export is counted, and symbols are named and have no limit (ACL2's manual, topic
+-- DEFABSSTOBJ).
 use Rattle.std.specs.Prelude.{ℕ, List, [], ◌∷◌, map, Option, Some, None, ℤ, pos, negsuc, nat_le, if◌then◌else◌}
 use Rattle.std.specs.Option.{option_map}
 use Rattle.model_objects.specs.Object.{Integer, Symbol, Text, Pair, weight, max_weight}
@@ -15,11 +16,11 @@ use Rattle.model_lists.specs.Lists.{StobjList, Value, End, as_object}
 use Rattle.model_lists.specs.Layouts.{initial}
 use Rattle.model_terms.specs.Worlds.{World, Definition, FunctionOfAbstract, AbstractDescriptor, Out, Ordinary, definition, Primitive, Defined, Macro, Constant, Concrete, Generated, Abstract, OfAbstract, Named, Signed}
 use Rattle.model_terms.specs.Worlds as worlds
-use Rattle.model_eval.specs.Outcomes.{Shown, Plain, Stobj, Stobjs, Guard, Range, Large, State, Outcome, Gives, Unknown, stops_here}
-use Rattle.model_eval.specs.Scopes.{ordinary, first_stobj, list_of, with_list}
-use Rattle.model_eval.specs.Worlds.{stobj_layout}
+use Rattle.model_eval.specs.Outcomes.{Shown, Plain, StobjNamed, Stobjs, Guard, Range, Large, State, Outcome, Gives, Unknown, stops_here}
+use Rattle.model_eval.specs.Variables.{ordinary, first_stobj, list_of, with_list}
+use Rattle.model_eval.specs.StobjLayouts.{stobj_layout}
 use Rattle.model_eval.specs.Evaluated.{Rules, Evaluator, evaluated}
-use Rattle.model_logic.specs.Logic.{Theory, Found, Thing, elements, logic_call}
+use Rattle.model_logic.specs.Logic.{Theory, Found, Thing, element_values, logic_call}
 
 -- ---- primitives
 
@@ -64,14 +65,14 @@ abstract_primitive packages f p values state =
     let args = ordinary values in
     abstract_applied packages f state p values (argument by_name args 0) (argument by_name args 1) (argument by_name args 2)
 
--- ---- objects and exports
+-- ---- stobjs and exports
 
 module _ (b : Theory) (budget : ℕ) where
   -- the value of a logic function, where the budget suffices
   abbrev pub logic_value_of : ℕ → List Thing → Option Thing
   logic_value_of name args = option_map (λ (f : Found). f.value) (logic_call b budget name args 0)
 
-  -- the list of a new object: that of an abstract one is the value of its logic creator
+  -- the list of a new stobj: that of an abstract one is the value of its logic creator
   abbrev pub fresh_defined : ℕ → Option Definition → Option (StobjList QualifiedName)
   fresh_defined x None = Some End
   fresh_defined x (Some (Primitive name row)) = Some End
@@ -88,38 +89,38 @@ module _ (b : Theory) (budget : ℕ) where
   abbrev pub abstract_fresh : ℕ → Option (StobjList QualifiedName)
   abstract_fresh x = fresh_defined x (definition b.world x)
 
-  -- an actual in the logic: of an object its list
+  -- an actual in the logic: of a stobj its list
   abbrev pub logic_actual : Stobjs QualifiedName → Shown QualifiedName → Thing
   logic_actual stobjs (Plain o) = o
-  logic_actual stobjs (Stobj x) = as_object by_name (list_of stobjs x)
+  logic_actual stobjs (StobjNamed x) = as_object by_name (list_of stobjs x)
 
-  -- the outputs of a logic function, of which an object is the one that this variable names
+  -- the outputs of a logic function, of which a stobj is the one that this variable names
   abbrev pub out_values : Option ℕ → List Out → List Thing → List (Shown QualifiedName)
   out_values x [] parts = []
   out_values x (o ∷ os) [] = []
   out_values x (Ordinary ∷ os) (p ∷ ps) = Plain p ∷ out_values x os ps
   out_values None (worlds.Stobj y ∷ os) (p ∷ ps) = Plain p ∷ out_values None os ps
-  out_values (Some x) (worlds.Stobj y ∷ os) (p ∷ ps) = Stobj x ∷ out_values (Some x) os ps
+  out_values (Some x) (worlds.Stobj y ∷ os) (p ∷ ps) = StobjNamed x ∷ out_values (Some x) os ps
 
-  abbrev pub out_objects : Option ℕ → List Out → List Thing → Stobjs QualifiedName → Stobjs QualifiedName
-  out_objects x [] parts stobjs = stobjs
-  out_objects x (o ∷ os) [] stobjs = stobjs
-  out_objects x (Ordinary ∷ os) (p ∷ ps) stobjs = out_objects x os ps stobjs
-  out_objects None (worlds.Stobj y ∷ os) (p ∷ ps) stobjs = out_objects None os ps stobjs
-  out_objects (Some x) (worlds.Stobj y ∷ os) (p ∷ ps) stobjs = out_objects (Some x) os ps (with_list x (Value p) stobjs)
+  abbrev pub out_stobjs : Option ℕ → List Out → List Thing → Stobjs QualifiedName → Stobjs QualifiedName
+  out_stobjs x [] parts stobjs = stobjs
+  out_stobjs x (o ∷ os) [] stobjs = stobjs
+  out_stobjs x (Ordinary ∷ os) (p ∷ ps) stobjs = out_stobjs x os ps stobjs
+  out_stobjs None (worlds.Stobj y ∷ os) (p ∷ ps) stobjs = out_stobjs None os ps stobjs
+  out_stobjs (Some x) (worlds.Stobj y ∷ os) (p ∷ ps) stobjs = out_stobjs (Some x) os ps (with_list x (Value p) stobjs)
 
   -- a value as one for each output
   abbrev pub out_parts : List Out → Thing → List Thing
   out_parts [] value = []
   out_parts (o ∷ []) value = value ∷ []
-  out_parts (o ∷ (p ∷ ps)) value = elements (map (λ (q : Out). 0) (o ∷ (p ∷ ps))) 0 value
+  out_parts (o ∷ (p ∷ ps)) value = element_values (map (λ (q : Out). 0) (o ∷ (p ∷ ps))) 0 value
 
   abbrev pub abstract_export : FunctionOfAbstract → List (Shown QualifiedName) → State QualifiedName → Option Thing → Outcome QualifiedName
   abstract_export f values state None = Unknown
   abstract_export f values state (Some v) =
       let x = first_stobj values in
       let outs = f.signature.outs in
-      Gives (out_values x outs (out_parts outs v)) (record state { stobjs = out_objects x outs (out_parts outs v) state.stobjs })
+      Gives (out_values x outs (out_parts outs v)) (record state { stobjs = out_stobjs x outs (out_parts outs v) state.stobjs })
 
   -- the rules of abstract evaluation with a limit of calls
   abbrev pub abstract_rules : ℕ → Rules QualifiedName

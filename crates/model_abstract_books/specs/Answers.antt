@@ -1,14 +1,14 @@
 -- Answers with their symbols by name; and which answers abstract evaluation need not give.
 use Rattle.std.specs.Prelude.{ℕ, List, map, Bool, true, false, Option, Some, None}
 use Rattle.model_symbols.specs.Symbols.{QualifiedName, form_of}
-use Rattle.model_eval.specs.Outcomes.{Shown, Plain, Stobj, Stop, Guard, Steps, Depth, Range, Large, Symbols}
+use Rattle.model_eval.specs.Outcomes.{Shown, Plain, StobjNamed, Stop, Guard, Steps, Depth, Range, Large, Symbols}
 use Rattle.model_expansion.specs.Faults.{ExpandFault, MacroArgs, BadShape, MacroStopped, UnknownFunction, Arity, TooNested, Refusal, NameInUse, BadName, DuplicateFormal, BadDeclare, BadType, BadInitial, CongruenceMismatch, UnknownPackage, PackageExists, ImportClash, SymbolLimit, NotSupported, Thread, Expand, FoundationNotConcrete, MissingFunction, SignatureMismatch, GuardNotExecutable, TooLarge}
 use Rattle.model_books.specs.Commands.{Answer, Event, Skipped, Values, Show, Cells, Refused, Stopped}
 
 module _ (symbols : List QualifiedName) where
   abbrev pub shown_named : Shown ℕ → Shown QualifiedName
   shown_named (Plain o) = Plain (form_of symbols o)
-  shown_named (Stobj x) = Stobj x
+  shown_named (StobjNamed x) = StobjNamed x
 
   abbrev pub stop_named : Stop ℕ → Stop QualifiedName
   stop_named (Guard f args) = Guard f (map shown_named args)

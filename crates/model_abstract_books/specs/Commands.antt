@@ -1,5 +1,5 @@
--- A command as abstract evaluation answers it: an abstract object is its abstract list, and an export is its logic function.
--- The world, its symbols, expansion and the rules are those of every command.
+-- A command as abstract evaluation answers it: an abstract stobj is its abstract list, and an export is its logic function.
+-- The world, its symbols, expansion and the rules are those of every command (ACL2's manual, topic DEFABSSTOBJ).
 use Rattle.std.specs.Prelude.{◌≡◌, ℕ, ◌+◌, List, [], ◌∷◌, ◌++◌, Option, Some, None, nat_eq, option_map, option_and_then, if◌then◌else◌}
 use Rattle.std.specs.Option.{option_or}
 use Rattle.std.specs.Map.{lookup}
@@ -11,23 +11,23 @@ use Rattle.model_lists.specs.Normal.{name_cmp, normal, list_cells}
 use Rattle.model_terms.specs.Cores.{Core}
 use Rattle.model_terms.specs.Faults.{Fault, expression_fault, constant_fault}
 use Rattle.model_eval.specs.Outcomes.{Stobjs, State, Outcome, Gives, Stops, Unknown}
-use Rattle.model_eval.specs.Scopes.{single, object_of}
+use Rattle.model_eval.specs.Variables.{single, object_of}
 use Rattle.model_eval.specs.Checked.{live}
 use Rattle.model_logic.specs.Logic.{Theory, Thing}
 use Rattle.model_abstract.specs.Rules.{abstract_fresh, abstractly}
 use Rattle.model_expansion.specs.Words.{defconst_word, defpkg_word}
-use Rattle.model_expansion.specs.Forms.{elements}
+use Rattle.model_expansion.specs.Forms.{elements, symbol_or_nil}
 use Rattle.model_expansion.specs.Faults.{Refusal, BadShape, Expand, Thread}
 use Rattle.model_expansion.specs.Expansion.{Progress, at_start, Expanded, Makes, Fails, expanded}
 use Rattle.model_stobjs.specs.Answers.{EventResult, Grants, Refuses, Halts}
 use Rattle.model_stobjs.specs.Heads.{name_in_use}
-use Rattle.model_events.specs.Constants.{name_and_form, bad_constant_name, number, text_and_form, clash_refusal, exists_already}
-use Rattle.model_events.specs.Events.{Standing, Limits, Admitted, Name, PackageName, setting, admitted}
+use Rattle.model_events.specs.Constants.{name_and_form, bad_constant_name, text_and_form, clash_refusal, exists_already}
+use Rattle.model_events.specs.Events.{Environment, Limits, Admitted, Name, PackageName, setting, admitted}
 use Rattle.model_books.specs.Opening.{Session}
 use Rattle.model_abstract_books.specs.Answers.{stop_named}
 use Rattle.model_books.specs.Commands.{Answer, Event, Skipped, Values, Show, Cells, Refused, Stopped, Ways, live_scope, way_of, command}
 
--- the list of each live object by its name, with symbols by name
+-- the list of each live stobj by its name, with symbols by name
 abbrev pub Lists : Type 0
 Lists = Stobjs QualifiedName
 
@@ -37,8 +37,8 @@ pub record AbstractOutcome : Type 0 where
   pub calls : ℕ
   pub value : Option Thing  -- of the constant that the command defined
 
-abbrev pub theory_of : Standing → List QualifiedName → Theory
-theory_of standing symbols = record { world = standing.world; packages = standing.packages; symbols = symbols }
+abbrev pub theory_of : Environment → List QualifiedName → Theory
+theory_of environment symbols = record { world = environment.world; packages = environment.packages; symbols = symbols }
 
 abbrev pub with_value : Option (StobjList QualifiedName) → (StobjList QualifiedName → Option AbstractOutcome) → Option AbstractOutcome
 with_value None go = None
@@ -46,7 +46,7 @@ with_value (Some l) go = go l
 
 -- The standing and the symbols are those of the session; None where the budget of calls does not suffice for a value of the
 -- logic.
-module _ (budget : ℕ) (k : Limits) (s : Session) (lists : Lists) where
+module _ (budget : ℕ) (bounds : Limits) (s : Session) (lists : Lists) where
   abbrev pub outcome : Lists → Answer QualifiedName → ℕ → Option AbstractOutcome
   outcome after answer calls = Some (record { lists = after; answer = answer; calls = calls; value = None })
 
@@ -63,11 +63,11 @@ module _ (budget : ℕ) (k : Limits) (s : Session) (lists : Lists) where
 
   -- ---- events
 
-  -- an event that makes an object
+  -- an event that makes a stobj
   abbrev pub created_outcome : Admitted → Progress → Option ℕ → Option AbstractOutcome
   created_outcome a p None = outcome lists (Event a.said) p.outer
   created_outcome a p (Some x) =
-      with_value (abstract_fresh (theory_of a.standing p.symbols) budget x) (λ l. outcome (lists ++ (x, l) ∷ []) (Event a.said) p.outer)
+      with_value (abstract_fresh (theory_of a.environment p.symbols) budget x) (λ l. outcome (lists ++ (x, l) ∷ []) (Event a.said) p.outer)
 
   abbrev pub event_outcome : EventResult Admitted → Option AbstractOutcome
   event_outcome (Grants a p) = created_outcome a p a.created
@@ -80,9 +80,9 @@ module _ (budget : ℕ) (k : Limits) (s : Session) (lists : Lists) where
   begun scope p = record { stobjs = scope; symbols = p.symbols; calls = p.outer; outer = 0 }
 
   abbrev pub evaluated_on : Lists → Core → Progress → Outcome QualifiedName
-  evaluated_on scope f p = abstractly (theory_of s.standing p.symbols) budget k.steps k.depth f (live scope) (begun scope p)
+  evaluated_on scope f p = abstractly (theory_of s.environment p.symbols) budget bounds.steps bounds.depth f (live scope) (begun scope p)
 
-  -- ---- constants and packages: their form is evaluated with no object in scope
+  -- ---- constants and packages: their form is evaluated with no stobj in scope
 
   abbrev pub constant_ended : (Thing → ℕ → Option AbstractOutcome) → Outcome QualifiedName → Option AbstractOutcome
   constant_ended go (Gives values state) = go (object_of by_name (single by_name values)) state.calls
@@ -90,17 +90,17 @@ module _ (budget : ℕ) (k : Limits) (s : Session) (lists : Lists) where
   constant_ended go Unknown = None
 
   abbrev pub constant_made : (Thing → ℕ → Option AbstractOutcome) → Expanded Core → Option AbstractOutcome
-  constant_made go (Makes f p) = unless_refused (option_map Thread (constant_fault s.standing.world f)) p (constant_ended go (evaluated_on [] f p))
+  constant_made go (Makes f p) = unless_refused (option_map Thread (constant_fault s.environment.world f)) p (constant_ended go (evaluated_on [] f p))
   constant_made go (Fails fault p) = refused (Expand fault) p
 
   abbrev pub constant_value : Object ℕ → (Thing → ℕ → Option AbstractOutcome) → Option AbstractOutcome
-  constant_value form go = constant_made go (expanded (setting s.standing k) form (at_start s.symbols))
+  constant_value form go = constant_made go (expanded (setting s.environment bounds) form (at_start s.symbols))
 
   abbrev pub constant_outcome : Option (Object ℕ × Object ℕ) → Option AbstractOutcome
   constant_outcome None = refused (Expand (BadShape defconst_word)) (at_start s.symbols)
   constant_outcome (Some c) =
-      unless_refused (option_or (bad_constant_name s.symbols c.0) (name_in_use s.standing.world (number c.0 ∷ []))) (at_start s.symbols)
-      (constant_value c.1 (λ v calls. Some (record { lists = lists; answer = Event (Name (number c.0)); calls = calls; value = Some v })))
+      unless_refused (option_or (bad_constant_name s.symbols c.0) (name_in_use s.environment.world (symbol_or_nil c.0 ∷ []))) (at_start s.symbols)
+      (constant_value c.1 (λ v calls. Some (record { lists = lists; answer = Event (Name (symbol_or_nil c.0)); calls = calls; value = Some v })))
 
   -- the symbols of a true list of symbols
   abbrev pub names_in : Thing → Option (List QualifiedName)
@@ -115,7 +115,7 @@ module _ (budget : ℕ) (k : Limits) (s : Session) (lists : Lists) where
   abbrev pub package_refusal : List QualifiedName → List ℕ → Option (List QualifiedName) → Option Refusal
   package_refusal symbols name None = Some (Expand (BadShape defpkg_word))
   package_refusal symbols name (Some imports) =
-      option_or (exists_already s.standing.packages name) (option_map (clash_refusal symbols) (import_clash imports))
+      option_or (exists_already s.environment.packages name) (option_map (clash_refusal symbols) (import_clash imports))
 
   abbrev pub package_answer : List ℕ → Option Refusal → Answer QualifiedName
   package_answer name None = Event (PackageName name)
@@ -139,7 +139,7 @@ module _ (budget : ℕ) (k : Limits) (s : Session) (lists : Lists) where
   core_outcome f p None = evaluated_outcome (evaluated_on lists f p)
 
   abbrev pub expanded_outcome : Expanded Core → Option AbstractOutcome
-  expanded_outcome (Makes f p) = core_outcome f p (expression_fault s.standing.world (live_scope lists) f)
+  expanded_outcome (Makes f p) = core_outcome f p (expression_fault s.environment.world (live_scope lists) f)
   expanded_outcome (Fails fault p) = refused (Expand fault) p
 
   -- ---- `:SHOW` and `:CELLS`
@@ -159,15 +159,15 @@ module _ (budget : ℕ) (k : Limits) (s : Session) (lists : Lists) where
   abbrev pub event_way : ℕ → Object ℕ → Option AbstractOutcome
   event_way head d =
       if nat_eq head defconst_word then constant_outcome (option_and_then name_and_form (elements d))
-      else if nat_eq head defpkg_word then package_outcome (command k s (Pair (Symbol head) d)).session.symbols (text_and_form d)
-      else event_outcome (admitted s.standing k head d (at_start s.symbols))
+      else if nat_eq head defpkg_word then package_outcome (command bounds s (Pair (Symbol head) d)).session.symbols (text_and_form d)
+      else event_outcome (admitted s.environment bounds head d (at_start s.symbols))
 
   abbrev pub ways : Ways (Option AbstractOutcome)
   ways = record {
     event = event_way;
     skipped = at_once Skipped;
     refused = λ r. at_once (Refused r);
-    expression = λ form. expanded_outcome (expanded (setting s.standing k) form (at_start s.symbols));
+    expression = λ form. expanded_outcome (expanded (setting s.environment bounds) form (at_start s.symbols));
     show = λ x. option_map (λ l. at_once (Show (shown_object l))) (live_list x);
     cells = at_once (Cells (all_cells lists));
   }
@@ -177,4 +177,4 @@ module _ (budget : ℕ) (k : Limits) (s : Session) (lists : Lists) where
 
 -- some budget gives the outcome
 abbrev pub AnswersAbstractly : Limits → Session → Lists → Object ℕ → AbstractOutcome → Type 0
-AnswersAbstractly k s lists form o = (budget : ℕ) × (abstract_command budget k s lists form ≡ Some o)
+AnswersAbstractly bounds s lists form o = (budget : ℕ) × (abstract_command budget bounds s lists form ≡ Some o)

@@ -1,4 +1,5 @@
--- The commands that print the foundations of abstract objects, which abstract evaluation does not see.
+-- The commands that print the foundations of abstract stobjs, which abstract evaluation does not see (ACL2's manual, topic
+-- DEFABSSTOBJ).
 use Rattle.std.specs.Prelude.{ℕ, Bool, true, false, Option, Some, None, nat_eq, option_map}
 use Rattle.std.specs.Map.{lookup}
 use Rattle.model_objects.specs.Object.{Object}
@@ -25,10 +26,10 @@ foundation_ways s = record {
   skipped = false;
   refused = λ r. false;
   expression = λ form. false;
-  show = λ x. option_map (λ l. is_abstract (definition s.standing.world x)) (lookup (nat_eq x) s.stobjs);
+  show = λ x. option_map (λ l. is_abstract (definition s.environment.world x)) (lookup (nat_eq x) s.stobjs);
   cells = true;
 }
 
--- `(:CELLS)`, and `(:SHOW st)` of a live abstract object
+-- `(:CELLS)`, and `(:SHOW st)` of a live abstract stobj
 unfoldable pub prints_foundations : Session → Object ℕ → Bool
 prints_foundations s form = way_of (foundation_ways s) s.symbols form

@@ -1,4 +1,5 @@
--- When the obligations of abstract objects hold: in the logic, for every choice of objects.
+-- When the obligations of abstract objects hold: in the logic, for every choice of objects (ACL2's manual, topic
+-- DEFABSSTOBJ).
 use Rattle.std.specs.Prelude.{◌≡◌, ℕ, List, [], ◌∷◌, false, Some}
 use Rattle.model_objects.specs.Object.{Symbol}
 use Rattle.model_symbols.specs.Opening.{truth_name}
@@ -8,7 +9,7 @@ use Rattle.model_terms.specs.Worlds.{AbstractDescriptor, Abstract, definition}
 use Rattle.model_logic.specs.Logic.{Theory, Thing, Values, EndsWith}
 use Rattle.model_stobjs.specs.Obligations.{Claim, Correspondence, GuardTheorem, Preserved, Obligation, all_core, obligations}
 
--- a value other than `NIL`; for an object that is kept well formed, `T`
+-- a value other than `NIL`; for a stobj that is kept well formed, `T`
 abbrev pub IsMet : Claim → Thing → Type 0
 IsMet Correspondence v = is_nil by_name v ≡ false
 IsMet GuardTheorem v = is_nil by_name v ≡ false
@@ -35,6 +36,6 @@ module _ (b : Theory) where
   AllHold [] = Unit {0}
   AllHold (o ∷ os) = Holds o × AllHold os
 
-  -- the obligations of every abstract object hold
+  -- the obligations of every abstract stobj hold
   pub record ObligationsHold : Type 0 where
     pub hold : (x : ℕ) (d : AbstractDescriptor) → definition b.world x ≡ Some (Abstract d) → AllHold (obligations b.world b.symbols d)

@@ -1,2 +1,2 @@
-//! Commands as abstract evaluation answers them, and when the obligations of abstract objects hold. Definitions.
+//! Commands as abstract evaluation answers them, and when the obligations of abstract stobjs hold. Definitions.
 #![tactic(auto)]

@@ -17,7 +17,7 @@ use Rattle.model_eval_laws.specs.Counting.{Counts}
 use Rattle.model_abstract_laws.proofs.AbstractCountLemmas.{abstract_counts_calls}
 use Rattle.model_expansion.specs.Words.{defconst_word, defpkg_word}
 use Rattle.model_expansion.specs.Faults.{Refusal, Thread}
-use Rattle.model_expansion.specs.Forms.{elements}
+use Rattle.model_expansion.specs.Forms.{elements, symbol_or_nil}
 use Rattle.model_expansion.specs.Expansion.{Progress, Expanded, Makes, Fails, expanded}
 use Rattle.model_expansion_laws.specs.Counting.{Advanced, Advances}
 use Rattle.model_expansion_laws.proofs.CountLemmas.{expansion_counts}
@@ -25,7 +25,7 @@ use Rattle.model_books_laws.proofs.AnswerLemmas.{Answers}
 use Rattle.model_books_laws.proofs.EventLemmas.{answers_admitted}
 use Rattle.model_stobjs.specs.Answers.{EventResult, Grants, Refuses, Halts}
 use Rattle.model_stobjs.specs.Heads.{name_in_use}
-use Rattle.model_events.specs.Constants.{name_and_form, bad_constant_name, number, text_and_form}
+use Rattle.model_events.specs.Constants.{name_and_form, bad_constant_name, text_and_form}
 use Rattle.model_events.specs.Events.{Limits, Admitted, Name, setting, admitted}
 use Rattle.model_books.specs.Opening.{Session}
 use Rattle.model_books.specs.Commands.{Event, Show, live_scope, command}
@@ -48,7 +48,7 @@ module _ (lists : Lists) where
   module _ (m : ℕ) (k : Limits) (s : Session) where
     keeps_made : (a : Admitted) (p : Progress) (x : Option ℕ) → Keeps (created_outcome m k s lists a p x)
     keeps_made a p None = ([], sym (append-nil lists))
-    keeps_made a p (Some x) = keeps_created a p.outer x (abstract_fresh (theory_of a.standing p.symbols) m x)
+    keeps_made a p (Some x) = keeps_created a p.outer x (abstract_fresh (theory_of a.environment p.symbols) m x)
 
     keeps_event : (a : EventResult Admitted) → Keeps (event_outcome m k s lists a)
     keeps_event (Grants a p) = keeps_made a p a.created
@@ -68,14 +68,14 @@ module _ (lists : Lists) where
 
     keeps_constant_made : (go : Thing → ℕ → Option AbstractOutcome) (x : Expanded Core) → ((v : Thing) (n : ℕ) → Keeps (go v n)) → Keeps (constant_made m k s lists go x)
     keeps_constant_made go (Makes f p) h =
-        keeps_unless (option_map Thread (constant_fault s.standing.world f)) p _ (keeps_ended go (evaluated_on m k s lists [] f p) h)
+        keeps_unless (option_map Thread (constant_fault s.environment.world f)) p _ (keeps_ended go (evaluated_on m k s lists [] f p) h)
     keeps_constant_made go (Fails fault p) h = refl
 
     keeps_constant : (c : Option (Object ℕ × Object ℕ)) → Keeps (constant_outcome m k s lists c)
     keeps_constant None = refl
     keeps_constant (Some c) =
-        keeps_unless (option_or (bad_constant_name s.symbols c.0) (name_in_use s.standing.world (number c.0 ∷ []))) (at_start s.symbols) _
-        (keeps_constant_made (λ v n. Some (record { lists = lists; answer = Event (Name (number c.0)); calls = n; value = Some v })) (expanded (setting s.standing k) c.1 (at_start s.symbols)) (λ v n. ([], sym (append-nil lists))))
+        keeps_unless (option_or (bad_constant_name s.symbols c.0) (name_in_use s.environment.world (symbol_or_nil c.0 ∷ []))) (at_start s.symbols) _
+        (keeps_constant_made (λ v n. Some (record { lists = lists; answer = Event (Name (symbol_or_nil c.0)); calls = n; value = Some v })) (expanded (setting s.environment k) c.1 (at_start s.symbols)) (λ v n. ([], sym (append-nil lists))))
 
     keeps_answer : (name : List ℕ) (r : Option Refusal) → KeepsLists lists lists (package_answer m k s lists name r)
     keeps_answer name None = ([], sym (append-nil lists))
@@ -85,7 +85,7 @@ module _ (lists : Lists) where
     keeps_package symbols None = refl
     keeps_package symbols (Some c) =
         keeps_constant_made (λ v n. outcome m k s lists lists (package_answer m k s lists c.0 (package_refusal m k s lists symbols c.0 (names_in m k s lists v))) n)
-        (expanded (setting s.standing k) c.1 (at_start s.symbols)) (λ v n. keeps_answer c.0 (package_refusal m k s lists symbols c.0 (names_in m k s lists v)))
+        (expanded (setting s.environment k) c.1 (at_start s.symbols)) (λ v n. keeps_answer c.0 (package_refusal m k s lists symbols c.0 (names_in m k s lists v)))
 
     keeps_if : (b : Bool) (x y : Option AbstractOutcome) → Keeps x → Keeps y → Keeps (if b then x else y)
     keeps_if true x y h j = h
@@ -95,7 +95,7 @@ module _ (lists : Lists) where
     keeps_event_way head d =
         keeps_if (nat_eq head defconst_word) _ _ (keeps_constant (option_and_then name_and_form (elements d)))
         (keeps_if (nat_eq head defpkg_word) _ _ (keeps_package (command k s (Pair (Symbol head) d)).session.symbols (text_and_form d))
-        (keeps_event (admitted s.standing k head d (at_start s.symbols))))
+        (keeps_event (admitted s.environment k head d (at_start s.symbols))))
 
     -- ---- expressions
 
@@ -109,7 +109,7 @@ module _ (lists : Lists) where
     keeps_core f p None = keeps_evaluated (evaluated_on m k s lists lists f p)
 
     keeps_expanded : (x : Expanded Core) → Keeps (expanded_outcome m k s lists x)
-    keeps_expanded (Makes f p) = keeps_core f p (expression_fault s.standing.world (live_scope lists) f)
+    keeps_expanded (Makes f p) = keeps_core f p (expression_fault s.environment.world (live_scope lists) f)
     keeps_expanded (Fails fault p) = refl
 
     keeps_shown : (l : Option (StobjList QualifiedName)) → ShowHolds Keeps (ways m k s lists) s.symbols (option_map (λ l. at_once m k s lists (Show (shown_object m k s lists l))) l)
@@ -121,7 +121,7 @@ module _ (lists : Lists) where
       event = keeps_event_way;
       skipped = refl;
       refused = λ r. refl;
-      expression = λ form. keeps_expanded (expanded (setting s.standing k) form (at_start s.symbols));
+      expression = λ form. keeps_expanded (expanded (setting s.environment k) form (at_start s.symbols));
       show = λ x. keeps_shown (live_list m k s lists x);
       cells = refl;
     }
@@ -153,7 +153,7 @@ module _ (k : Limits) where
 
     within_made : (a : Admitted) (p : Progress) (x : Option ℕ) → p.outer ≤ k.steps → Within (created_outcome m k s lists a p x)
     within_made a p None h = h
-    within_made a p (Some x) h = within_value (abstract_fresh (theory_of a.standing p.symbols) m x) _ (λ l. h)
+    within_made a p (Some x) h = within_value (abstract_fresh (theory_of a.environment p.symbols) m x) _ (λ l. h)
 
     within_event : (a : EventResult Admitted) → Answers k.steps (at_start s.symbols) a → Within (event_outcome m k s lists a)
     within_event (Grants a p) h = within_made a p a.created (bound p h)
@@ -176,18 +176,18 @@ module _ (k : Limits) where
 
     within_constant_made : (go : Thing → ℕ → Option AbstractOutcome) (x : Expanded Core) → GoWithin go → Advances k.steps (at_start s.symbols) x → Within (constant_made m k s lists go x)
     within_constant_made go (Makes f p) h g =
-        within_unless (option_map Thread (constant_fault s.standing.world f)) p _ (bound p g)
-        (within_ended go p (evaluated_on m k s lists [] f p) h (bound p g) (abstract_counts_calls.counts (theory_of s.standing p.symbols) m k.steps k.depth f (live []) (begun m k s lists [] p)))
+        within_unless (option_map Thread (constant_fault s.environment.world f)) p _ (bound p g)
+        (within_ended go p (evaluated_on m k s lists [] f p) h (bound p g) (abstract_counts_calls.counts (theory_of s.environment p.symbols) m k.steps k.depth f (live []) (begun m k s lists [] p)))
     within_constant_made go (Fails fault p) h g = bound p g.0
 
-    within_form : (form : Object ℕ) (go : Thing → ℕ → Option AbstractOutcome) → GoWithin go → Within (constant_made m k s lists go (expanded (setting s.standing k) form (at_start s.symbols)))
-    within_form form go h = within_constant_made go _ h (expansion_counts.form (setting s.standing k) form (at_start s.symbols))
+    within_form : (form : Object ℕ) (go : Thing → ℕ → Option AbstractOutcome) → GoWithin go → Within (constant_made m k s lists go (expanded (setting s.environment k) form (at_start s.symbols)))
+    within_form form go h = within_constant_made go _ h (expansion_counts.form (setting s.environment k) form (at_start s.symbols))
 
     within_constant : (c : Option (Object ℕ × Object ℕ)) → Within (constant_outcome m k s lists c)
     within_constant None = omega arith
     within_constant (Some c) =
-        within_unless (option_or (bad_constant_name s.symbols c.0) (name_in_use s.standing.world (number c.0 ∷ []))) (at_start s.symbols) _ (omega arith)
-        (within_form c.1 (λ v n. Some (record { lists = lists; answer = Event (Name (number c.0)); calls = n; value = Some v })) (λ v n h. h))
+        within_unless (option_or (bad_constant_name s.symbols c.0) (name_in_use s.environment.world (symbol_or_nil c.0 ∷ []))) (at_start s.symbols) _ (omega arith)
+        (within_form c.1 (λ v n. Some (record { lists = lists; answer = Event (Name (symbol_or_nil c.0)); calls = n; value = Some v })) (λ v n h. h))
 
     within_package : (symbols : List QualifiedName) (c : Option (List ℕ × Object ℕ)) → Within (package_outcome m k s lists symbols c)
     within_package symbols None = omega arith
@@ -202,7 +202,7 @@ module _ (k : Limits) where
     within_event_way head d =
         within_if (nat_eq head defconst_word) _ _ (within_constant (option_and_then name_and_form (elements d)))
         (within_if (nat_eq head defpkg_word) _ _ (within_package (command k s (Pair (Symbol head) d)).session.symbols (text_and_form d))
-        (within_event _ (answers_admitted s.standing k head d (at_start s.symbols))))
+        (within_event _ (answers_admitted s.environment k head d (at_start s.symbols))))
 
     -- ---- expressions
 
@@ -214,10 +214,10 @@ module _ (k : Limits) where
     within_core : (f : Core) (p : Progress) (fault : Option Fault) → p.outer ≤ k.steps → Within (core_outcome m k s lists f p fault)
     within_core f p (Some fault) h = h
     within_core f p None h =
-        within_evaluated p _ h (abstract_counts_calls.counts (theory_of s.standing p.symbols) m k.steps k.depth f (live lists) (begun m k s lists lists p))
+        within_evaluated p _ h (abstract_counts_calls.counts (theory_of s.environment p.symbols) m k.steps k.depth f (live lists) (begun m k s lists lists p))
 
     within_expanded : (x : Expanded Core) → Advances k.steps (at_start s.symbols) x → Within (expanded_outcome m k s lists x)
-    within_expanded (Makes f p) h = within_core f p (expression_fault s.standing.world (live_scope lists) f) (bound p h)
+    within_expanded (Makes f p) h = within_core f p (expression_fault s.environment.world (live_scope lists) f) (bound p h)
     within_expanded (Fails fault p) h = bound p h.0
 
     within_shown : (l : Option (StobjList QualifiedName)) → ShowHolds Within (ways m k s lists) s.symbols (option_map (λ l. at_once m k s lists (Show (shown_object m k s lists l))) l)
@@ -229,7 +229,7 @@ module _ (k : Limits) where
       event = within_event_way;
       skipped = omega arith;
       refused = λ r. omega arith;
-      expression = λ form. within_expanded _ (expansion_counts.form (setting s.standing k) form (at_start s.symbols));
+      expression = λ form. within_expanded _ (expansion_counts.form (setting s.environment k) form (at_start s.symbols));
       show = λ x. within_shown (live_list m k s lists x);
       cells = omega arith;
     }

@@ -16,17 +16,18 @@ use Rattle.model_abstract_laws.proofs.AbstractBudgetLemmas.{abstract_budgets_agr
 use Rattle.model_logic.specs.Logic.{Thing}
 use Rattle.model_expansion.specs.Words.{defconst_word, defpkg_word}
 use Rattle.model_expansion.specs.Faults.{Refusal, Thread}
-use Rattle.model_expansion.specs.Forms.{elements, symbol, among, is_keyword}
+use Rattle.model_expansion.specs.Forms.{elements, symbol, is_keyword, symbol_or_nil}
 use Rattle.model_expansion.specs.Expansion.{Progress, Expanded, Makes, Fails, expanded}
 use Rattle.model_stobjs.specs.Answers.{EventResult, Grants, Refuses, Halts}
 use Rattle.model_stobjs.specs.Heads.{event_heads, is_skipped, is_unsupported, name_in_use}
-use Rattle.model_events.specs.Constants.{name_and_form, bad_constant_name, number, text_and_form}
+use Rattle.model_events.specs.Constants.{name_and_form, bad_constant_name, text_and_form}
 use Rattle.model_events.specs.Events.{Limits, Admitted, Name, setting, admitted}
 use Rattle.model_books.specs.Opening.{Session}
 use Rattle.model_books.specs.Commands.{Event, Ways, live_scope, keyword_way, headed_way, way_of, command}
 use Rattle.model_expansion.specs.Expansion.{at_start}
 use Rattle.model_abstract_books.specs.Commands.{Lists, AbstractOutcome, theory_of, with_value, created_outcome, event_outcome, evaluated_outcome, begun, evaluated_on, outcome, unless_refused, constant_ended, constant_made, constant_outcome, names_in, package_refusal, package_answer, package_outcome, event_way, core_outcome, expanded_outcome, ways, abstract_command, AnswersAbstractly}
 use Rattle.model_abstract_books_laws.specs.Laws.{AnswersAreDetermined}
+use Rattle.model_terms.specs.Classes.{has}
 
 -- the second is the first, where the first is an outcome
 abbrev Kept : Option AbstractOutcome → Option AbstractOutcome → Type 0
@@ -54,7 +55,7 @@ module _ (w : Ways (Option AbstractOutcome)) (event : ℕ → Object ℕ → Opt
 
   headed_kept : (head : ℕ) (d : Object ℕ) → Kept (headed_way w symbols head d) (headed_way fuller symbols head d)
   headed_kept head d =
-      kept_if (among head event_heads) _ _ _ _ (events head d)
+      kept_if (has event_heads head) _ _ _ _ (events head d)
       (kept_if (is_skipped head) _ _ _ _ (kept_same w.skipped)
       (kept_if (is_unsupported head) _ _ _ _ (kept_same _)
       (kept_if (is_keyword symbols head) _ _ _ _ (kept_same (keyword_way w symbols head d)) (expressions (Pair (Symbol head) d)))))
@@ -79,8 +80,8 @@ module _ (m n : ℕ) (larger : m ≤ n) (k : Limits) (s : Session) (lists : List
   created_kept : (a : Admitted) (p : Progress) (x : Option ℕ) → Kept (created_outcome m k s lists a p x) (created_outcome n k s lists a p x)
   created_kept a p None = refl
   created_kept a p (Some x) =
-      value_kept (abstract_fresh (theory_of a.standing p.symbols) m x) (abstract_fresh (theory_of a.standing p.symbols) n x) _
-      (λ l. abstract_budgets_agree.fresh (theory_of a.standing p.symbols) m n x l larger)
+      value_kept (abstract_fresh (theory_of a.environment p.symbols) m x) (abstract_fresh (theory_of a.environment p.symbols) n x) _
+      (λ l. abstract_budgets_agree.fresh (theory_of a.environment p.symbols) m n x l larger)
 
   event_kept : (a : EventResult Admitted) → Kept (event_outcome m k s lists a) (event_outcome n k s lists a)
   event_kept (Grants a p) = created_kept a p a.created
@@ -93,7 +94,7 @@ module _ (m n : ℕ) (larger : m ≤ n) (k : Limits) (s : Session) (lists : List
   evaluated_kept Unknown t h = tt
 
   on_kept : (scope : Lists) (f : Core) (p : Progress) → HasOutcome (evaluated_on m k s lists scope f p) → evaluated_on n k s lists scope f p ≡ evaluated_on m k s lists scope f p
-  on_kept scope f p = abstract_budgets_agree.same (theory_of s.standing p.symbols) m n k.steps k.depth f (live scope) (begun m k s lists scope p) larger
+  on_kept scope f p = abstract_budgets_agree.same (theory_of s.environment p.symbols) m n k.steps k.depth f (live scope) (begun m k s lists scope p) larger
 
   -- ---- constants and packages
 
@@ -108,27 +109,27 @@ module _ (m n : ℕ) (larger : m ≤ n) (k : Limits) (s : Session) (lists : List
 
   made_kept : (go : Thing → ℕ → Option AbstractOutcome) (x : Expanded Core) → Kept (constant_made m k s lists go x) (constant_made n k s lists go x)
   made_kept go (Makes f p) =
-      unless_kept (option_map Thread (constant_fault s.standing.world f)) p _ _
+      unless_kept (option_map Thread (constant_fault s.environment.world f)) p _ _
       (ended_kept go (evaluated_on m k s lists [] f p) (evaluated_on n k s lists [] f p) (on_kept [] f p))
   made_kept go (Fails fault p) = refl
 
   constant_kept : (c : Option (Object ℕ × Object ℕ)) → Kept (constant_outcome m k s lists c) (constant_outcome n k s lists c)
   constant_kept None = refl
   constant_kept (Some c) =
-      unless_kept (option_or (bad_constant_name s.symbols c.0) (name_in_use s.standing.world (number c.0 ∷ []))) (at_start s.symbols) _ _
-      (made_kept (λ v calls. Some (record { lists = lists; answer = Event (Name (number c.0)); calls = calls; value = Some v })) (expanded (setting s.standing k) c.1 (at_start s.symbols)))
+      unless_kept (option_or (bad_constant_name s.symbols c.0) (name_in_use s.environment.world (symbol_or_nil c.0 ∷ []))) (at_start s.symbols) _ _
+      (made_kept (λ v calls. Some (record { lists = lists; answer = Event (Name (symbol_or_nil c.0)); calls = calls; value = Some v })) (expanded (setting s.environment k) c.1 (at_start s.symbols)))
 
   package_kept : (symbols : List QualifiedName) (c : Option (List ℕ × Object ℕ)) → Kept (package_outcome m k s lists symbols c) (package_outcome n k s lists symbols c)
   package_kept symbols None = refl
   package_kept symbols (Some c) =
       made_kept (λ v calls. outcome m k s lists lists (package_answer m k s lists c.0 (package_refusal m k s lists symbols c.0 (names_in m k s lists v))) calls)
-      (expanded (setting s.standing k) c.1 (at_start s.symbols))
+      (expanded (setting s.environment k) c.1 (at_start s.symbols))
 
   events_kept : (head : ℕ) (d : Object ℕ) → Kept (event_way m k s lists head d) (event_way n k s lists head d)
   events_kept head d =
       kept_if (nat_eq head defconst_word) _ _ _ _ (constant_kept (option_and_then name_and_form (elements d)))
       (kept_if (nat_eq head defpkg_word) _ _ _ _ (package_kept (command k s (Pair (Symbol head) d)).session.symbols (text_and_form d))
-      (event_kept (admitted s.standing k head d (at_start s.symbols))))
+      (event_kept (admitted s.environment k head d (at_start s.symbols))))
 
   -- ---- expressions
 
@@ -138,7 +139,7 @@ module _ (m n : ℕ) (larger : m ≤ n) (k : Limits) (s : Session) (lists : List
       evaluated_kept (evaluated_on m k s lists lists f p) (evaluated_on n k s lists lists f p) (on_kept lists f p)
 
   expanded_kept : (x : Expanded Core) → Kept (expanded_outcome m k s lists x) (expanded_outcome n k s lists x)
-  expanded_kept (Makes f p) = core_kept f p (expression_fault s.standing.world (live_scope lists) f)
+  expanded_kept (Makes f p) = core_kept f p (expression_fault s.environment.world (live_scope lists) f)
   expanded_kept (Fails fault p) = refl
 
   command_kept : (form : Object ℕ) → Kept (abstract_command m k s lists form) (abstract_command n k s lists form)
@@ -146,7 +147,7 @@ module _ (m n : ℕ) (larger : m ≤ n) (k : Limits) (s : Session) (lists : List
   command_kept form =
       way_kept (ways m k s lists) (ways n k s lists).event (ways n k s lists).expression s.symbols
       events_kept
-      (λ f. expanded_kept (expanded (setting s.standing k) f (at_start s.symbols))) form
+      (λ f. expanded_kept (expanded (setting s.environment k) f (at_start s.symbols))) form
 
 -- ---- the laws
 

@@ -1,9 +1,9 @@
--- Abstract objects are found among those of a world.
+-- Abstract stobjs are found among those of a world.
 use Rattle.std.proofs.Common.{refl, ◌≡◌, ℕ, List, [], ◌∷◌, Bool, true, false, Option, Some, sym, subst, inl, inr}
 use Rattle.std.specs.Prelude.{◌⊎◌, nat_eq, if◌then◌else◌}
-use Rattle.model_terms.specs.Worlds.{World, AbstractDescriptor, Definition, Primitive, Defined, Macro, Constant, Concrete, Generated, Abstract, OfAbstract, Named, Signed, definition, name_of}
+use Rattle.model_terms.specs.Worlds.{World, AbstractDescriptor, Definition, Primitive, Defined, Macro, Constant, Concrete, Generated, Abstract, OfAbstract, Named, Signed, definition, definition_name}
 
--- the abstract objects of a world, in order
+-- the abstract stobjs of a world, in order
 abbrev before : Definition → List AbstractDescriptor → List AbstractDescriptor
 before (Primitive name row) ds = ds
 before (Defined f) ds = ds
@@ -16,9 +16,9 @@ before (OfAbstract f) ds = ds
 before (Named name formals) ds = ds
 before (Signed name formals signature executable) ds = ds
 
-abbrev pub abstract_objects : World → List AbstractDescriptor
-abstract_objects [] = []
-abstract_objects (e ∷ es) = before e (abstract_objects es)
+abbrev pub abstract_stobjs : World → List AbstractDescriptor
+abstract_stobjs [] = []
+abstract_stobjs (e ∷ es) = before e (abstract_stobjs es)
 
 abbrev pub IsAmong : AbstractDescriptor → List AbstractDescriptor → Type 0
 IsAmong d [] = ⊥
@@ -43,6 +43,6 @@ chosen : (e : Definition) (d : AbstractDescriptor) (ds : List AbstractDescriptor
 chosen e d ds others true go h = here e d ds h
 chosen e d ds others false go h = later e d ds (go h)
 
-pub is_among : (w : World) (x : ℕ) (d : AbstractDescriptor) → definition w x ≡ Some (Abstract d) → IsAmong d (abstract_objects w)
+pub is_among : (w : World) (x : ℕ) (d : AbstractDescriptor) → definition w x ≡ Some (Abstract d) → IsAmong d (abstract_stobjs w)
 is_among [] x d h = cc
-is_among (e ∷ es) x d h = chosen e d (abstract_objects es) (definition es x) (nat_eq x (name_of e)) (is_among es x d) h
+is_among (e ∷ es) x d h = chosen e d (abstract_stobjs es) (definition es x) (nat_eq x (definition_name e)) (is_among es x d) h

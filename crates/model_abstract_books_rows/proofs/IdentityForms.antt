@@ -1,4 +1,4 @@
--- The obligations of the book's object, and the core forms of their parts.
+-- The obligations of the book's stobj, and the core forms of their parts.
 use Rattle.std.specs.Prelude.{refl, ◌≡◌, ℕ, List, [], ◌∷◌, map, codes}
 use Rattle.model_symbols.specs.Opening.{common_lisp_text, acl2_text, common_lisp_symbols, acl2_symbols, acl2_package, opening}
 use Rattle.model_prims.specs.Rows.{table}

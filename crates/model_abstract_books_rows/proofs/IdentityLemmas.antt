@@ -1,4 +1,4 @@
--- The obligations of the book's object hold.
+-- The obligations of the book's stobj hold.
 use Rattle.std.proofs.Common.{refl, ◌≡◌, ℕ, Bool, true, false, Option, List, [], sym, subst}
 use Rattle.std.specs.Prelude.{codes}
 use Rattle.model_objects.specs.Object.{Object, Integer, Symbol, Text, Pair}
@@ -50,7 +50,7 @@ met_by Preserved f values calls b e h = (truth_of by_name true, (budget, calls, 
 met_by Correspondence f values calls b e h = (truth_of by_name true, (budget, calls, subst (λ c. value f values ≡ found (truth_of by_name c) calls) h e), refl)
 met_by GuardTheorem f values calls b e h = (truth_of by_name true, (budget, calls, subst (λ c. value f values ≡ found (truth_of by_name c) calls) h e), refl)
 
--- the first element of any object
+-- the first element of any stobj
 first_is_car : (o : Thing) → car by_name o ≡ element by_name 0 o
 first_is_car (Integer n) = refl
 first_is_car (Symbol s) = refl

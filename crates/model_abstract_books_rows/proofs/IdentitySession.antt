@@ -6,20 +6,20 @@ use Rattle.model_prims.specs.Guards.{recognizer_guard, relation_guard, arithmeti
 use Rattle.model_prims.specs.Applied.{bounded, applied_to}
 use Rattle.model_prims.specs.Values.{recognized, related, computed, listed, named_by, wanted}
 use Rattle.model_prims.specs.Rows.{table}
-use Rattle.model_lists.specs.Generated.{accessed, changed, lengthened, hash_read, hash_bound, hash_looked_up, hash_put, hash_removed}
+use Rattle.model_lists.specs.Effects.{accessed, changed, lengthened, hash_read, hash_bound, hash_looked_up, hash_put, hash_removed}
 use Rattle.model_terms.specs.Sites.{below, below_parts, below_actuals}
 use Rattle.model_terms.specs.Nested.{stobj_let_holds, with_local_holds}
 use Rattle.model_terms.specs.Faults.{first_in, first_at, first_fault}
 use Rattle.model_terms.specs.Outputs.{outputs}
-use Rattle.model_eval.specs.Worlds.{layout_within}
-use Rattle.model_eval.specs.Generated.{effect}
+use Rattle.model_eval.specs.StobjLayouts.{layout_within}
+use Rattle.model_eval.specs.GeneratedCalls.{effect}
 use Rattle.model_eval.specs.Evaluated.{exec_called, called, in_order, all_borrowed, put_back, evaluated}
 use Rattle.model_stobjs.specs.Obligations.{core_object, core_objects, binding_objects, obligations}
 use Rattle.model_stobjs.specs.Heads.{name_in_use}
 use Rattle.model_events.specs.Constants.{constant_read, package_read, current_read}
 use Rattle.model_events.specs.Macros.{written_macro, macro_read}
 use Rattle.model_stobjs.specs.Abstracts.{written_abstract, abstract_read}
-use Rattle.model_stobjs.specs.Objects.{written_object, nesting_within, shape_of, names_made, descriptor_read}
+use Rattle.model_stobjs.specs.Descriptors.{written_stobj, nesting_within, shape_of, names_made, descriptor_read}
 use Rattle.model_stobjs.specs.Guards.{renamed_core, renamed_cores, with_functions, all_with_functions, binds, any_binds, generated_guard}
 use Rattle.model_expansion.specs.Expansion.{macro_values, look_at, settled, grown_all, grown}
 use Rattle.model_expansion.specs.Layers.{made_of}
@@ -51,7 +51,7 @@ use Rattle.model_terms.specs.Cores.{Core, Cores, cores, Var, Const, If, Call, mo
 use Rattle.model_terms.specs.Worlds.{World, Out, Ordinary, Stobj, Signature, Scalar, Descriptor, AbstractDescriptor, Definition, Defined, Concrete, Generated, Abstract, OfAbstract}
 use Rattle.model_expansion.specs.Words.{car_word, equal_word, integerp_word}
 use Rattle.model_expansion.specs.TypeTerms.{true_core, false_core}
-use Rattle.model_events.specs.Events.{Standing}
+use Rattle.model_events.specs.Events.{Environment}
 use Rattle.model_books.specs.Opening.{opening_world, opening_session, first_package}
 use Rattle.model_abstract_books_rows.specs.Identity.{identity_book, identity_session}
 
@@ -91,7 +91,7 @@ concrete_object = record {
 }
 
 abbrev generated : ℕ → Option ℕ → Role → List Out → List Out → Definition
-generated name field does ins outs = Generated (record { name = name; object = 196; field = field; role = does; signature = kinds ins outs })
+generated name field does ins outs = Generated (record { name = name; stobj = 196; field = field; role = does; signature = kinds ins outs })
 
 abbrev defined : ℕ → List ℕ → Core → Core → Bool → Definition
 defined name formals guard body executable =
@@ -113,7 +113,7 @@ abstract_object = record {
 
 abbrev of_abstract : ℕ → AbstractRole → List ℕ → List Out → List Out → Core → ℕ → ℕ → Definition
 of_abstract name does formals ins outs guard logic exec =
-    OfAbstract (record { name = name; object = 212; role = does; formals = formals; signature = kinds ins outs; guard = guard; logic = logic; exec = exec })
+    OfAbstract (record { name = name; stobj = 212; role = does; formals = formals; signature = kinds ins outs; guard = guard; logic = logic; exec = exec })
 
 unfoldable pub entries : World
 entries =
@@ -135,15 +135,15 @@ entries =
     ∷ of_abstract 215 abstract_role.Export (210 ∷ 212 ∷ []) (Ordinary ∷ Stobj 212 ∷ []) (Stobj 212 ∷ []) (If (call integerp_word (210 ∷ [])) (call 216 (212 ∷ [])) false_core) 209 203
     ∷ []
 
-unfoldable pub known_standing : Standing
+unfoldable pub known_standing : Environment
 known_standing = record { world = opening_world ++ entries; packages = opening.packages; current = first_package }
 
 -- ---- the session, computed
 
 pub symbols_known : identity_session.symbols ≡ known_symbols
-unfolding bounded_value logic_access logic_update logic_effect identity_book identity_session answer_named is_excepted abstract_command played prints_foundations book_played form_value form_values call_within digits common_lisp_text acl2_text common_lisp_symbols acl2_symbols acl2_package opening token_of step next_at recognizer_guard relation_guard arithmetic_guard listing_guard naming_guard guard bounded applied_to recognized related computed listed named_by wanted table accessed changed lengthened hash_read hash_bound hash_looked_up hash_put hash_removed below below_parts below_actuals stobj_let_holds with_local_holds first_in first_at first_fault outputs layout_within effect exec_called called in_order all_borrowed put_back evaluated core_object core_objects binding_objects obligations name_in_use constant_read package_read current_read written_macro macro_read written_abstract abstract_read written_object nesting_within shape_of names_made descriptor_read renamed_core renamed_cores with_functions all_with_functions binds any_binds generated_guard macro_values look_at settled grown_all grown made_of admitted written_fault functions_read declarations summary_text answers output opening_world opening_session command answer_lines generated_book given known_symbols entries known_standing
+unfolding bounded_value logic_access logic_update logic_effect identity_book identity_session answer_named is_excepted abstract_command played prints_foundations book_played form_value form_values call_within digits common_lisp_text acl2_text common_lisp_symbols acl2_symbols acl2_package opening token_of step next_at recognizer_guard relation_guard arithmetic_guard listing_guard naming_guard guard bounded applied_to recognized related computed listed named_by wanted table accessed changed lengthened hash_read hash_bound hash_looked_up hash_put hash_removed below below_parts below_actuals stobj_let_holds with_local_holds first_in first_at first_fault outputs layout_within effect exec_called called in_order all_borrowed put_back evaluated core_object core_objects binding_objects obligations name_in_use constant_read package_read current_read written_macro macro_read written_abstract abstract_read written_stobj nesting_within shape_of names_made descriptor_read renamed_core renamed_cores with_functions all_with_functions binds any_binds generated_guard macro_values look_at settled grown_all grown made_of admitted written_fault functions_read declarations summary_text answers output opening_world opening_session command answer_lines generated_book given known_symbols entries known_standing
 symbols_known = refl
 
-pub standing_known : identity_session.standing ≡ known_standing
-unfolding bounded_value logic_access logic_update logic_effect identity_book identity_session answer_named is_excepted abstract_command played prints_foundations book_played form_value form_values call_within digits common_lisp_text acl2_text common_lisp_symbols acl2_symbols acl2_package opening token_of step next_at recognizer_guard relation_guard arithmetic_guard listing_guard naming_guard guard bounded applied_to recognized related computed listed named_by wanted table accessed changed lengthened hash_read hash_bound hash_looked_up hash_put hash_removed below below_parts below_actuals stobj_let_holds with_local_holds first_in first_at first_fault outputs layout_within effect exec_called called in_order all_borrowed put_back evaluated core_object core_objects binding_objects obligations name_in_use constant_read package_read current_read written_macro macro_read written_abstract abstract_read written_object nesting_within shape_of names_made descriptor_read renamed_core renamed_cores with_functions all_with_functions binds any_binds generated_guard macro_values look_at settled grown_all grown made_of admitted written_fault functions_read declarations summary_text answers output opening_world opening_session command answer_lines generated_book given known_symbols entries known_standing
+pub standing_known : identity_session.environment ≡ known_standing
+unfolding bounded_value logic_access logic_update logic_effect identity_book identity_session answer_named is_excepted abstract_command played prints_foundations book_played form_value form_values call_within digits common_lisp_text acl2_text common_lisp_symbols acl2_symbols acl2_package opening token_of step next_at recognizer_guard relation_guard arithmetic_guard listing_guard naming_guard guard bounded applied_to recognized related computed listed named_by wanted table accessed changed lengthened hash_read hash_bound hash_looked_up hash_put hash_removed below below_parts below_actuals stobj_let_holds with_local_holds first_in first_at first_fault outputs layout_within effect exec_called called in_order all_borrowed put_back evaluated core_object core_objects binding_objects obligations name_in_use constant_read package_read current_read written_macro macro_read written_abstract abstract_read written_stobj nesting_within shape_of names_made descriptor_read renamed_core renamed_cores with_functions all_with_functions binds any_binds generated_guard macro_values look_at settled grown_all grown made_of admitted written_fault functions_read declarations summary_text answers output opening_world opening_session command answer_lines generated_book given known_symbols entries known_standing
 standing_known = refl

@@ -7,7 +7,7 @@ use Rattle.model_prims.specs.Lists.{len, car, is_true_list, element, updated}
 use Rattle.model_prims.specs.Rows.{table}
 use Rattle.model_prims.specs.Values.{recognized, related, computed, listed, wanted}
 use Rattle.model_terms.specs.Cores.{Core}
-use Rattle.model_eval.specs.Worlds.{layout_within}
+use Rattle.model_eval.specs.StobjLayouts.{layout_within}
 use Rattle.model_logic.specs.Logic.{Theory, Thing, Values, Found, then_found, found, spending, value_in, logic, form_value, form_values, call_within}
 use Rattle.model_logic.specs.LogicFunctions.{logic_access, logic_update, logic_effect}
 use Rattle.model_books.specs.Opening.{opening_world}
@@ -25,7 +25,7 @@ budget = 50
 abbrev pub value : Core → Values → Option Found
 value f values = logic known_book budget f values
 
--- ---- the values of the variables: the foundation, the object, and an element
+-- ---- the values of the variables: the foundation, the stobj, and an element
 
 abbrev pub concrete_in : Values → Thing
 concrete_in values = value_in values 196
@@ -74,7 +74,7 @@ abbrev pub well_formed_later : Thing → ℕ → Option Found
 well_formed_later o calls =
     counted calls (λ calls. where_met (told (is_list o) calls) (λ calls. where_met (length_told o calls) (λ calls. first_told o calls)))
 
--- what is found of the list of the object
+-- what is found of the list of the stobj
 abbrev pub object_value : Values → ℕ → Option Found
 object_value values calls = well_formed_value (is_list (abstract_in values)) (is_single (abstract_in values)) (has_integer (abstract_in values)) calls
 

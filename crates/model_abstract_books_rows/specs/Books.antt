@@ -71,7 +71,7 @@ module _ (budget : ℕ) (k : Limits) where
   unfoldable pub played : ℕ → ℕ → Bytes → Session → Lists → Played
   played zero offset bytes s lists = at_end s lists
   played (suc n) offset bytes s lists =
-      next_played s lists (λ end. played n end (drop (end - offset) bytes)) (next_at s.standing.packages s.standing.current s.symbols offset bytes true)
+      next_played s lists (λ end. played n end (drop (end - offset) bytes)) (next_at s.environment.packages s.environment.current s.symbols offset bytes true)
 
   unfoldable pub book_played : Bytes → Played
   book_played bytes = played (length bytes + 1) 0 bytes opening_session []
@@ -82,7 +82,7 @@ checked_answers p = map (λ (a : Told × Option Told). Some a.0) p.answers
 abbrev pub abstract_answers : Played → List (Option Told)
 abstract_answers p = map (λ (a : Told × Option Told). a.1) p.answers
 
--- the list of each object at the end of the book, symbols by name: in checked evaluation, and in abstract evaluation
+-- the list of each stobj at the end of the book, symbols by name: in checked evaluation, and in abstract evaluation
 abbrev pub Ends : Type 0
 Ends = List (StobjList QualifiedName × StobjList QualifiedName)
 

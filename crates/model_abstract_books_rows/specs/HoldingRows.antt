@@ -10,7 +10,7 @@ use Rattle.model_abstract_books.specs.Commands.{theory_of}
 use Rattle.model_abstract_books.specs.Holding.{Holds}
 
 abbrev pub book_at_first : Theory
-book_at_first = theory_of opening_session.standing opening_session.symbols
+book_at_first = theory_of opening_session.environment opening_session.symbols
 
 abbrev pub variable : Core
 variable = Var hidden_variable_word

@@ -1,4 +1,4 @@
--- A book whose abstract object is its foundation as a list of the logic, and its obligations.
+-- A book whose abstract stobj is its foundation as a list of the logic, and its obligations.
 use Rattle.model_abstract_books.specs.Commands.{theory_of}
 use Rattle.std.specs.Prelude.{◌≡◌, ℕ, List, [], ◌∷◌, length, codes, Some}
 use Rattle.model_symbols.specs.Symbols.{QualifiedName, number_of}
@@ -18,15 +18,15 @@ identity_book = lines (codes "(defstobj st$c (val$c :type integer :initially 0))
 unfoldable pub identity_session : Session
 identity_session = (book_played 50 usual identity_book).session
 
-abbrev pub object_name : QualifiedName
-object_name = record { home = acl2; name = codes "ST" }
+abbrev pub stobj_name : QualifiedName
+stobj_name = record { home = acl2; name = codes "ST" }
 
--- there is an object of this name
+-- there is a stobj of this name
 pub record IsStobj (x : ℕ) (d : AbstractDescriptor) : Type 0 where
-  pub named : number_of identity_session.symbols object_name ≡ Some x
-  pub stands : definition identity_session.standing.world x ≡ Some (Abstract d)
+  pub named : number_of identity_session.symbols stobj_name ≡ Some x
+  pub stands : definition identity_session.environment.world x ≡ Some (Abstract d)
 
--- the object has six obligations, and they hold
+-- the stobj has six obligations, and they hold
 pub record IdentityHolds : Type 0 where
-  pub count : (x : ℕ) × (d : AbstractDescriptor) × IsStobj x d × (length (obligations identity_session.standing.world identity_session.symbols d) ≡ 6)
-  pub hold : ObligationsHold (theory_of identity_session.standing identity_session.symbols)
+  pub count : (x : ℕ) × (d : AbstractDescriptor) × IsStobj x d × (length (obligations identity_session.environment.world identity_session.symbols d) ≡ 6)
+  pub hold : ObligationsHold (theory_of identity_session.environment identity_session.symbols)

@@ -1,4 +1,4 @@
--- Books with abstract objects whose lists differ from those of their foundations, each command answered in both ways.
+-- Books with abstract stobjs whose lists differ from those of their foundations, each command answered in both ways.
 use Rattle.std.specs.Prelude.{◌≡◌, ℕ, List, [], ◌∷◌, codes, pos}
 use Rattle.acl_base.specs.declared.status.Status.TheVariants.{Errors}
 use Rattle.model_objects.specs.Object.{Integer, Symbol, list_onto}
@@ -12,14 +12,14 @@ use Rattle.model_abstract_books_rows.specs.Books.{Played, FollowsTheLogic, book_
 abbrev pub usual : Limits
 usual = record { steps = 1000000; depth = 2048 }
 
--- the list of a concrete object of one integer, and an abstract list of one
+-- the list of a concrete stobj of one integer, and an abstract list of one
 abbrev pub concrete : ℕ → StobjList QualifiedName
 concrete n = Item (Value (Integer (pos n))) End
 
 abbrev pub abstract : ℕ → StobjList QualifiedName
 abstract n = Value (list_onto (Integer (pos n) ∷ []) (Symbol nil_name))
 
--- an object that holds a number, and a foundation that holds its double
+-- a stobj that holds a number, and a foundation that holds its double
 unfoldable pub doubled_book : List ℕ
 doubled_book = lines (codes "(defstobj st$c (val$c :type integer :initially 0))" ∷ codes "(defun st$ap (x) (and (true-listp x) (equal (len x) 1) (integerp (car x))))" ∷ codes "(defun create-st$a () (list 0))" ∷ codes "(defun val$a (x) (declare (xargs :guard (st$ap x))) (car x))" ∷ codes "(defun update-val$a (v x) (declare (xargs :guard (and (integerp v) (st$ap x)))) (update-nth 0 v x))" ∷ codes "(defun half$c (st$c) (declare (xargs :stobjs st$c)) (floor (val$c st$c) 2))" ∷ codes "(defun double$c (v st$c) (declare (xargs :stobjs st$c :guard (integerp v))) (update-val$c (* 2 v) st$c))" ∷ codes "(defun-nx st$corr (st$c x) (equal (* 2 (car x)) (val$c st$c)))" ∷ codes "(defabsstobj st :exports ((val :exec half$c) (update-val :exec double$c)))" ∷ codes "(defstobj ct (n :type integer :initially 0))" ∷ codes "(update-val 5 st)" ∷ codes "(val st)" ∷ codes "(:show st)" ∷ codes "(:cells)" ∷ codes "(update-val 'a st)" ∷ codes "(update-n (val st) ct)" ∷ codes "(defun both (st ct) (declare (xargs :stobjs (st ct))) (let ((st (update-val (+ 1 (val st)) st))) (let ((ct (update-n (val st) ct))) (mv st ct (val st)))))" ∷ codes "(both st ct)" ∷ codes "(n ct)" ∷ codes "(list 'a (val st))" ∷ codes "(undefined st)" ∷ codes "(defun fresh () (with-local-stobj st (mv-let (st v) (let ((st (update-val 3 st))) (mv st (val st))) v)))" ∷ codes "(fresh)" ∷ codes "(val st)" ∷ codes "(defconst *c* (fresh))" ∷ codes "*c*" ∷ [])
 

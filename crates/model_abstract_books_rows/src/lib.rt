@@ -5,7 +5,7 @@ ghost use Rattle.model_abstract_books_rows.specs.Rows.{Doubled, Stopping};
 ghost use Rattle.model_abstract_books_rows.specs.HoldingRows.{HoldingRows};
 ghost use Rattle.model_abstract_books_rows.specs.Identity.{IdentityHolds};
 
-/// A book whose abstract object holds a number and whose foundation holds its double: what is written, and that every answer
+/// A book whose abstract stobj holds a number and whose foundation holds its double: what is written, and that every answer
 /// is that of abstract evaluation with as many calls.
 #[tactic(auto, using(crate::proofs::RowDoubled::is_computed))]
 pub fn doubled()
@@ -24,7 +24,7 @@ pub fn obligations_hold_or_not()
     ensures { HoldingRows }
 {}
 
-/// A book whose abstract object is its foundation as a list of the logic: its six obligations hold.
+/// A book whose abstract stobj is its foundation as a list of the logic: its six obligations hold.
 #[tactic(auto, using(crate::proofs::RowIdentity::identity_holds))]
 pub fn identity_obligations_hold()
     ensures { IdentityHolds }

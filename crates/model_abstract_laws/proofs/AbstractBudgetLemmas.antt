@@ -6,7 +6,7 @@ use Rattle.model_lists.specs.Lists.{StobjList, Value}
 use Rattle.model_terms.specs.Cores.{Core}
 use Rattle.model_terms.specs.Worlds.{Definition, FunctionOfAbstract, definition, Primitive, Defined, Macro, Constant, Concrete, Generated, Abstract, OfAbstract, Named, Signed}
 use Rattle.model_eval.specs.Outcomes.{Shown, State, Outcome, Gives, Stops, Unknown}
-use Rattle.model_eval.specs.Scopes.{Variables}
+use Rattle.model_eval.specs.Variables.{Variables}
 use Rattle.model_logic.specs.Logic.{Theory, Thing, Found}
 use Rattle.model_abstract.specs.Rules.{logic_value_of, fresh_defined, logic_actual, abstract_export, abstract_rules, abstractly}
 use Rattle.model_abstract_laws.specs.Budgets.{HasOutcome, AbstractBudgetsAgree}

@@ -14,12 +14,12 @@ use Rattle.model_lists.specs.Lists.{StobjList, End}
 use Rattle.model_terms.specs.Cores.{Core}
 use Rattle.model_terms.specs.Worlds.{FunctionOfAbstract}
 use Rattle.model_eval.specs.Outcomes.{Shown, Guard, State, Outcome, Gives, Stops, Unknown, Stobjs, stops_here}
-use Rattle.model_eval.specs.Scopes.{Variables, ordinary}
+use Rattle.model_eval.specs.Variables.{Variables, ordinary}
 use Rattle.model_eval.specs.Evaluated.{Rules, evaluated}
 use Rattle.model_logic.specs.Logic.{Theory, Thing}
 use Rattle.model_abstract.specs.Rules.{gives_number, gives_weighed, gives_old, gives_shifted, bounded_value, abstract_applied, abstract_primitive, abstract_export, abstract_rules, abstractly}
 use Rattle.model_abstract_laws.specs.Budgets.{HasOutcome}
-use Rattle.model_eval_laws.specs.Counting.{Counts, HasObjects}
+use Rattle.model_eval_laws.specs.Counting.{Counts, HasStobjs}
 use Rattle.model_abstract_laws.specs.Counting.{AbstractCountsCalls}
 use Rattle.model_eval_laws.proofs.Counts.{grown_same, grown_objects, counts_if, RulesCount, counts_evaluated, stays_evaluated}
 use Rattle.model_abstract_laws.proofs.Kept.{Kept, ListKept, Keeps, fuller_rules, kept_evaluated}
@@ -118,9 +118,9 @@ counts_kept k state (Gives values after) s e c h = subst (Counts k state) e c
 counts_kept k state (Stops stop origin after) s e c h = subst (Counts k state) e c
 counts_kept k state Unknown s e c h = absurd h
 
-objects_kept : (stobjs : Stobjs QualifiedName) (r s : Outcome QualifiedName) → Kept r s → HasObjects stobjs s → HasObjects stobjs r
-objects_kept stobjs (Gives values after) s e h = subst (HasObjects stobjs) e h
-objects_kept stobjs (Stops stop origin after) s e h = subst (HasObjects stobjs) e h
+objects_kept : (stobjs : Stobjs QualifiedName) (r s : Outcome QualifiedName) → Kept r s → HasStobjs stobjs s → HasStobjs stobjs r
+objects_kept stobjs (Gives values after) s e h = subst (HasStobjs stobjs) e h
+objects_kept stobjs (Stops stop origin after) s e h = subst (HasStobjs stobjs) e h
 objects_kept stobjs Unknown s e h = tt
 
 module _ (b : Theory) (budget k d : ℕ) (form : Core) (variables : Variables QualifiedName) (state : State QualifiedName) where
@@ -130,7 +130,7 @@ module _ (b : Theory) (budget k d : ℕ) (form : Core) (variables : Variables Qu
   counts_abstractly : HasOutcome (abstractly b budget k d form variables state) → Counts k state (abstractly b budget k d form variables state)
   counts_abstractly = counts_kept k state _ _ known_kept (counts_evaluated (known_rules b budget k) (known_count b budget k) d form variables state)
 
-  stays_abstractly : k ≤ state.calls → HasObjects state.stobjs (abstractly b budget k d form variables state)
+  stays_abstractly : k ≤ state.calls → HasStobjs state.stobjs (abstractly b budget k d form variables state)
   stays_abstractly h =
       objects_kept state.stobjs _ _ known_kept (stays_evaluated (known_rules b budget k) (known_count b budget k) d form variables state h)
 

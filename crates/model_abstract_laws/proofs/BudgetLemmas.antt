@@ -6,7 +6,7 @@ use Rattle.std.proofs.lemmas.Bool.{cases_lt}
 use Rattle.model_prims.specs.Kinds.{by_name, is_nil}
 use Rattle.model_terms.specs.Cores.{Core, Cores, Var, Const, If, Let, Mv, MvLet, StobjLet, WithLocal, MustBeEqual, Call, none, more}
 use Rattle.model_terms.specs.Worlds.{Definition, definition, Primitive, Defined, Macro, Constant, Concrete, Generated, Abstract, OfAbstract, Named, Signed}
-use Rattle.model_logic.specs.Logic.{Theory, Thing, Values, Found, then_found, found, bind, bind_others, elements, parts_for, Caller, spending, creator_of, logic_loans, with_children, put_loans, with_parent, form_value, form_values, defined_value, logic_of_abstract, call_within, logic_call, logic}
+use Rattle.model_logic.specs.Logic.{Theory, Thing, Values, Found, then_found, found, bind, bind_others, element_values, parts_for, Caller, spending, creator_of, logic_loans, with_children, put_loans, with_parent, form_value, form_values, defined_value, logic_of_abstract, call_within, logic_call, logic}
 use Rattle.model_abstract_laws.specs.Budgets.{IsSameAtLargerBudgets}
 
 -- the second is the first, where the first is a value
@@ -53,7 +53,7 @@ module _ (b : Theory) (k l : ℕ) (larger : k ≤ l) where
           more_forms forms values [] _ _ (λ os m. more_form body (bind names os values) m) n
       more_form (Mv parts) values n = more_forms parts values [] _ _ (λ os m. refl) n
       more_form (MvLet names form body) values n =
-          more_then _ _ _ _ (more_form form values n) (λ v m. more_form body (bind names (elements names 0 v) values) m)
+          more_then _ _ _ _ (more_form form values n) (λ v m. more_form body (bind names (element_values names 0 v) values) m)
       more_form (StobjLet names forms vars producer consumer) values n =
           let loans = logic_loans b names forms values in
           let put = put_loans vars loans in
@@ -61,10 +61,10 @@ module _ (b : Theory) (k l : ℕ) (larger : k ≤ l) where
           more_then _ _ _ _ (more_form producer (with_children loans values) m) (λ v m.
           more_spending (length put) m _ _ (λ m.
           more_form consumer (bind vars (parts_for vars v) [] ++ with_parent put (bind vars (parts_for vars v) []) values) m)))
-      more_form (WithLocal object names producer body) values n =
-          more_then _ _ _ _ (c (creator_of (definition b.world object)) [] n) (λ list m.
-          more_then _ _ _ _ (more_form producer ((object, list) ∷ values) m) (λ v m.
-          more_form body (bind_others object names (elements names 0 v) values) m))
+      more_form (WithLocal stobj names producer body) values n =
+          more_then _ _ _ _ (c (creator_of (definition b.world stobj)) [] n) (λ list m.
+          more_then _ _ _ _ (more_form producer ((stobj, list) ∷ values) m) (λ v m.
+          more_form body (bind_others stobj names (element_values names 0 v) values) m))
       more_form (MustBeEqual first exec) values n = more_form first values n
       more_form (Call f actuals) values n = more_forms actuals values [] _ _ (c f) n
 

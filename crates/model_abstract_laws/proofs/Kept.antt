@@ -7,13 +7,13 @@ use Rattle.model_terms.specs.Cores.{Core, Cores, Reached, Var, Const, If, Let, M
 use Rattle.model_terms.specs.Worlds.{Definition, FunctionOfAbstract, definition, Primitive, Defined, Macro, Constant, Concrete, Generated, Abstract, OfAbstract, Named, Signed}
 use Rattle.model_terms.specs.declared.role.AbstractRole.{AbstractRole}
 use Rattle.model_terms.specs.declared.role.AbstractRole.TheVariants as abstract_role
-use Rattle.model_eval.specs.Outcomes.{Shown, Plain, Stobj, State, Outcome, Gives, Stops, Unknown, then_with, with_state, cut_at, one_more_call, counting, Stobjs}
-use Rattle.model_eval.specs.Scopes.{Variables, variable_in, bound, single, inner_variables, list_of}
-use Rattle.model_eval.specs.Worlds.{stobj_layout}
-use Rattle.model_eval.specs.Generated.{generated}
-use Rattle.model_eval.specs.Children.{Loan, is_reached, are_twins, put_into_parent}
+use Rattle.model_eval.specs.Outcomes.{Shown, Plain, StobjNamed, State, Outcome, Gives, Stops, Unknown, then_with, with_state, cut_at, one_more_call, counting, Stobjs}
+use Rattle.model_eval.specs.Variables.{Variables, variable_in, bound, single, inner_variables, list_of}
+use Rattle.model_eval.specs.StobjLayouts.{stobj_layout}
+use Rattle.model_eval.specs.GeneratedCalls.{generated}
+use Rattle.model_eval.specs.Lending.{Loan, is_reached, are_twins, put_into_parent}
 use Rattle.model_eval.specs.ListsKeeping.{lists_keeping, inner_state, back, without_innermost, returned}
-use Rattle.model_eval.specs.Evaluated.{Rules, Evaluator, is_false, scoped, guarded, refused, of_abstract, by_definition, exec_called, called, in_order, leaf, leaf_or, loan_of, borrowing, borrowed_from, borrowed, all_borrowed, put_back, lending, loaned_variables, producing, with_loans, with_fresh, opened, evaluated}
+use Rattle.model_eval.specs.Evaluated.{Rules, Evaluator, is_false, scoped, with_guard, refused, of_abstract, by_definition, exec_called, called, in_order, leaf, leaf_or, loan_of, borrowing, borrowed_from, borrowed, all_borrowed, put_back, lending, loaned_variables, producing, with_loans, with_fresh, opened, evaluated}
 
 module _ {S : Type 0} where
   -- ---- outcomes
@@ -90,7 +90,7 @@ module _ {S : Type 0} where
       kept_scoped ev eu formals values form h state =
           kept_back formals values state _ _ (h form (inner_variables formals values) (inner_state formals values state))
 
-      kept_guarded : (ev eu : Evaluator S) (name : ℕ) (formals : List ℕ) (guard : Core) (values : List (Shown S)) (go to : State S → Outcome S) → EvKeeps ev eu → ToKeeps go to → ToKeeps (guarded r ev name formals guard values go) (guarded fuller_rules eu name formals guard values to)
+      kept_guarded : (ev eu : Evaluator S) (name : ℕ) (formals : List ℕ) (guard : Core) (values : List (Shown S)) (go to : State S → Outcome S) → EvKeeps ev eu → ToKeeps go to → ToKeeps (with_guard r ev name formals guard values go) (with_guard fuller_rules eu name formals guard values to)
       kept_guarded ev eu name formals guard values go to h k state =
           kept_then _ _ _ _ (kept_scoped ev eu formals values guard h state) (λ test after. kept_if (is_false r test) _ _ _ _ refl (k after))
 
@@ -109,7 +109,7 @@ module _ {S : Type 0} where
       kept_definition ev eu go to (Some (Constant f value)) name values h k state = refl
       kept_definition ev eu go to (Some (Concrete d class)) name values h k state = refl
       kept_definition ev eu go to (Some (Generated f)) name values h k state =
-          kept_same (generated lists_keeping r.kind f (stobj_layout r.see r.world f.object) values state)
+          kept_same (generated lists_keeping r.kind f (stobj_layout r.see r.world f.stobj) values state)
       kept_definition ev eu go to (Some (Abstract d)) name values h k state = refl
       kept_definition ev eu go to (Some (OfAbstract f)) name values h k state = k f state
       kept_definition ev eu go to (Some (Named f formals)) name values h k state = refl
@@ -143,7 +143,7 @@ module _ {S : Type 0} where
 
       kept_borrowed_from : (child : ℕ) (by : Reached) (p : Shown S) (variables : Variables S) (go to : Loan S → State S → Outcome S) → ((loan : Loan S) → ToKeeps (go loan) (to loan)) → ToKeeps (borrowed_from r child by p variables go) (borrowed_from fuller_rules child by p variables to)
       kept_borrowed_from child by (Plain o) variables go to k state = refl
-      kept_borrowed_from child by (Stobj p) variables go to k state =
+      kept_borrowed_from child by (StobjNamed p) variables go to k state =
           kept_counting r.limit state _ _ (kept_borrowing by.accessor (loan_of r child p by variables) _ _ (k (loan_of r child p by variables)))
 
       kept_borrowed : (child : ℕ) (by : Option Reached) (variables : Variables S) (go to : Loan S → State S → Outcome S) → ((loan : Loan S) → ToKeeps (go loan) (to loan)) → ToKeeps (borrowed r child by variables go) (borrowed fuller_rules child by variables to)
@@ -176,7 +176,7 @@ module _ {S : Type 0} where
           kept_if (are_twins r.kind loans) _ _ _ _ refl
           (kept_then _ _ _ _ (kept_producing ev eu vars producer variables loans h state) (λ values after. h consumer (bound vars values variables) after))
 
-      -- ---- local objects
+      -- ---- local stobjs
 
       kept_fresh : (ev eu : Evaluator S) (x : ℕ) (l m : Option (StobjList S)) (producer : Core) (variables : Variables S) → EvKeeps ev eu → ListKept l m → ToKeeps (with_fresh r ev x l producer variables) (with_fresh fuller_rules eu x m producer variables)
       kept_fresh ev eu x None m producer variables h e state = tt
@@ -196,8 +196,8 @@ module _ {S : Type 0} where
           kept_then _ _ _ _ (h form variables state) (λ values after. h body (bound names values variables) after)
       kept_opened ev eu h (StobjLet names forms vars producer consumer) variables state =
           kept_all_borrowed names forms variables [] _ _ (λ loans. kept_with_loans ev eu vars producer consumer variables loans h) state
-      kept_opened ev eu h (WithLocal object names producer body) variables state =
-          kept_then _ _ _ _ (kept_counting r.limit state _ _ (kept_fresh ev eu object (r.fresh object) (fresh object) producer variables h (g.freshly object)))
+      kept_opened ev eu h (WithLocal stobj names producer body) variables state =
+          kept_then _ _ _ _ (kept_counting r.limit state _ _ (kept_fresh ev eu stobj (r.fresh stobj) (fresh stobj) producer variables h (g.freshly stobj)))
           (λ values after. h body (bound names values variables) after)
       kept_opened ev eu h (MustBeEqual logic exec) variables state = h logic variables state
       kept_opened ev eu h (Call f actuals) variables state =

@@ -3,3 +3,4 @@ pub mod BudgetLemmas
 pub mod Kept
 pub mod AbstractBudgetLemmas
 pub mod AbstractCountLemmas
+pub mod ApartLemmas

@@ -4,7 +4,7 @@ use Rattle.model_symbols.specs.Symbols.{QualifiedName}
 use Rattle.model_lists.specs.Lists.{StobjList}
 use Rattle.model_terms.specs.Cores.{Core}
 use Rattle.model_eval.specs.Outcomes.{State, Outcome, Gives, Stops, Unknown}
-use Rattle.model_eval.specs.Scopes.{Variables}
+use Rattle.model_eval.specs.Variables.{Variables}
 use Rattle.model_logic.specs.Logic.{Theory, Thing, Values, Found, logic, logic_call, EndsWith, CallEndsWith}
 use Rattle.model_abstract.specs.Rules.{abstract_fresh, abstractly}
 
@@ -21,7 +21,7 @@ HasOutcome (Gives values state) = Unit {0}
 HasOutcome (Stops stop origin state) = Unit {0}
 HasOutcome Unknown = ⊥
 
--- an outcome of abstract evaluation, and the list of a new object, are the same at every larger budget
+-- an outcome of abstract evaluation, and the list of a new stobj, are the same at every larger budget
 pub record AbstractBudgetsAgree : Type 0 where
   pub same : (b : Theory) (m n k d : ℕ) (form : Core) (variables : Variables QualifiedName) (state : State QualifiedName) → m ≤ n → HasOutcome (abstractly b m k d form variables state) → abstractly b n k d form variables state ≡ abstractly b m k d form variables state
   pub fresh : (b : Theory) (m n x : ℕ) (l : StobjList QualifiedName) → m ≤ n → abstract_fresh b m x ≡ Some l → abstract_fresh b n x ≡ Some l

@@ -3,10 +3,10 @@ use Rattle.std.specs.Prelude.{ℕ, ◌≤◌}
 use Rattle.model_symbols.specs.Symbols.{QualifiedName}
 use Rattle.model_terms.specs.Cores.{Core}
 use Rattle.model_eval.specs.Outcomes.{State}
-use Rattle.model_eval.specs.Scopes.{Variables}
+use Rattle.model_eval.specs.Variables.{Variables}
 use Rattle.model_logic.specs.Logic.{Theory}
 use Rattle.model_abstract.specs.Rules.{abstractly}
-use Rattle.model_eval_laws.specs.Counting.{Counts, HasObjects}
+use Rattle.model_eval_laws.specs.Counting.{Counts, HasStobjs}
 use Rattle.model_abstract_laws.specs.Budgets.{HasOutcome}
 
 -- abstract evaluation counts as checked evaluation does, where it has an outcome
@@ -14,4 +14,4 @@ pub record AbstractCountsCalls : Type 0 where
   pub counts : (b : Theory) (budget k d : ℕ) (form : Core) (variables : Variables QualifiedName) (state : State QualifiedName) → HasOutcome (abstractly b budget k d form variables state)
       → Counts k state (abstractly b budget k d form variables state)
   pub cut : (b : Theory) (budget k d : ℕ) (form : Core) (variables : Variables QualifiedName) (state : State QualifiedName) → k ≤ state.calls
-      → HasObjects state.stobjs (abstractly b budget k d form variables state)
+      → HasStobjs state.stobjs (abstractly b budget k d form variables state)

@@ -1,3 +1,4 @@
 pub mod Laws
 pub mod Budgets
 pub mod Counting
+pub mod Apart

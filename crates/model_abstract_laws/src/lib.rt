@@ -1,6 +1,7 @@
 //! Laws of the logic value and of abstract evaluation.
 #![tactic(auto)]
 
+ghost use Rattle.model_abstract_laws.specs.Apart.{AreApart};
 ghost use Rattle.model_abstract_laws.specs.Laws.{AbstractAgreesUntilLimit};
 ghost use Rattle.model_abstract_laws.specs.Budgets.{IsSameAtLargerBudgets, AbstractBudgetsAgree};
 ghost use Rattle.model_abstract_laws.specs.Counting.{AbstractCountsCalls};
@@ -11,7 +12,7 @@ pub fn larger_budgets_give_the_same()
     ensures { IsSameAtLargerBudgets }
 {}
 
-/// An outcome of abstract evaluation, and the list of a new object, are the same at every larger budget.
+/// An outcome of abstract evaluation, and the list of a new stobj, are the same at every larger budget.
 #[tactic(auto, using(crate::proofs::AbstractBudgetLemmas::abstract_budgets_agree))]
 pub fn abstract_budgets_agree()
     ensures { AbstractBudgetsAgree }
@@ -28,4 +29,11 @@ pub fn larger_abstract_limits_agree()
 #[tactic(auto, using(crate::proofs::AbstractCountLemmas::abstract_counts_calls))]
 pub fn abstract_calls_are_counted()
     ensures { AbstractCountsCalls }
+{}
+
+/// A single value where fields are wanted, an unknown symbol, and an abstract list with a symbol of an unknown package do not
+/// correspond to anything.
+#[tactic(auto, using(crate::proofs::ApartLemmas::are_apart))]
+pub fn odd_lists_do_not_correspond()
+    ensures { AreApart }
 {}

@@ -4,9 +4,9 @@ use Rattle.model_objects.specs.Object.{Symbol}
 use Rattle.model_symbols.specs.Opening.{truth_name}
 use Rattle.model_prims.specs.Guards.{guard, recognizer_guard, relation_guard, arithmetic_guard, listing_guard, naming_guard}
 use Rattle.model_prims.specs.Values.{wanted, recognized, related, computed, listed, named_by}
-use Rattle.model_lists.specs.Generated.{accessed, changed, lengthened}
-use Rattle.model_eval.specs.Worlds.{layout_within}
-use Rattle.model_eval.specs.Generated.{effect}
+use Rattle.model_lists.specs.Effects.{accessed, changed, lengthened}
+use Rattle.model_eval.specs.StobjLayouts.{layout_within}
+use Rattle.model_eval.specs.GeneratedCalls.{effect}
 use Rattle.model_eval.specs.Evaluated.{exec_called, called, in_order, all_borrowed, put_back, evaluated}
 use Rattle.model_logic.specs.LogicFunctions.{logic_access, logic_update, logic_effect}
 use Rattle.model_logic.specs.Logic.{form_value, form_values, call_within}

@@ -1,4 +1,4 @@
--- Abstract evaluation of an object that is its foundation: (defstobj st$c (val$c :type integer :initially 0)), st$ap of x is
+-- Abstract evaluation of a stobj that is its foundation: (defstobj st$c (val$c :type integer :initially 0)), st$ap of x is
 -- (and (true-listp x) (equal (len x) 1) (integerp (car x))), create-st$a is (list 0), val$a is (car x), update-val$a is
 -- (update-nth 0 v x) and st$corr is (equal st$c x).
 use Rattle.std.specs.Prelude.{◌≡◌, ℕ, ◌^◌, List, [], ◌∷◌, ◌++◌, map, None, pos, negsuc}
@@ -17,12 +17,12 @@ use Rattle.model_terms.specs.Worlds as worlds
 use Rattle.model_terms.specs.declared.role.Role.TheVariants as role
 use Rattle.model_terms.specs.declared.role.AbstractRole.{AbstractRole}
 use Rattle.model_terms.specs.declared.role.AbstractRole.TheVariants as abstract_role
-use Rattle.model_eval.specs.Outcomes.{Plain, Stobj, Guard, Range, State, Outcome, Gives, Stops, Unknown}
+use Rattle.model_eval.specs.Outcomes.{Plain, StobjNamed, Guard, Range, State, Outcome, Gives, Stops, Unknown}
 use Rattle.model_eval.specs.Checked.{live}
 use Rattle.model_logic.specs.Logic.{Theory, Thing}
 use Rattle.model_abstract.specs.Rules.{bounded_value, abstractly}
 use Rattle.model_abstract.specs.Corresponding.{Correspond}
-use Rattle.model_eval_rows.specs.Books.{int, quoted, call, both_hold, always, primitives, primitive, function, generated, object, integer_field, origin, integerp_word, car_word, cons_word}
+use Rattle.model_eval_rows.specs.Books.{int, quoted, call, both_hold, always, primitives, primitive, function, generated, stobj, integer_field, origin, integerp_word, car_word, cons_word}
 use Rattle.model_eval_rows.specs.Books as books
 
 abbrev equal_word : ℕ
@@ -85,7 +85,7 @@ v = 210
 abbrev exported : ℕ → List ℕ → List worlds.Out → List worlds.Out → AbstractRole → Core → ℕ → ℕ → Definition
 exported name formals ins outs what guard logic exec = OfAbstract (record {
   name = name;
-  object = st;
+  stobj = st;
   role = what;
   formals = formals;
   signature = record { ins = ins; outs = outs };
@@ -112,7 +112,7 @@ world =
     ∷ primitive true_listp_word 1 (Recognizer recognizer.TrueListp)
     ∷ primitive len_word 1 (Listing listing.Len)
     ∷ primitive update_nth_word 3 (Listing listing.UpdateNth)
-    ∷ object foundation (integer_field ∷ []) None foundation
+    ∷ stobj foundation (integer_field ∷ []) None foundation
     ∷ generated val_c foundation 0 role.Access (worlds.Stobj foundation ∷ []) (Ordinary ∷ [])
     ∷ generated update_val_c foundation 0 role.Update (Ordinary ∷ worlds.Stobj foundation ∷ []) (worlds.Stobj foundation ∷ [])
     ∷ function_on_x st_ap always st_ap_body
@@ -142,11 +142,11 @@ book = record { world = world; packages = record { name = nil_name.home; imports
 abbrev number : ℕ → Thing
 number n = Integer (pos n)
 
--- the abstract object whose list is (n)
+-- the abstract stobj whose list is (n)
 abbrev holding : ℕ → List (ℕ × StobjList QualifiedName)
 holding n = (st, Value (list_onto (number n ∷ []) (Symbol nil_name))) ∷ []
 
--- a budget for the values of the logic, the number that the object holds, a form, and its outcome
+-- a budget for the values of the logic, the number that the stobj holds, a form, and its outcome
 pub record AbstractRow : Type 0 where
   pub budget : ℕ
   pub before : ℕ
@@ -168,14 +168,14 @@ run budget before form answer = record { budget = budget; before = before; form 
 unfoldable pub abstract_rows : List AbstractRow
 abstract_rows =
     -- what an export makes is not counted
-    run 100 0 (call update_val (int 5 ∷ Var st ∷ [])) (Gives (Stobj st ∷ []) (state 5 3))
+    run 100 0 (call update_val (int 5 ∷ Var st ∷ [])) (Gives (StobjNamed st ∷ []) (state 5 3))
     ∷ run 100 5 (call val (Var st ∷ [])) (Gives (Plain (number 5) ∷ []) (state 5 2))
     -- its guard is evaluated
-    ∷ run 100 5 (call update_val (always ∷ Var st ∷ [])) (Stops (Guard update_val (Plain (Symbol truth_name) ∷ Stobj st ∷ [])) (origin None 1) (state 5 2))
+    ∷ run 100 5 (call update_val (always ∷ Var st ∷ [])) (Stops (Guard update_val (Plain (Symbol truth_name) ∷ StobjNamed st ∷ [])) (origin None 1) (state 5 2))
     -- the logic function calls UPDATE-NTH once: a budget of two calls is enough, of one it is not
-    ∷ run 2 0 (call update_val (int 5 ∷ Var st ∷ [])) (Gives (Stobj st ∷ []) (state 5 3))
+    ∷ run 2 0 (call update_val (int 5 ∷ Var st ∷ [])) (Gives (StobjNamed st ∷ []) (state 5 3))
     ∷ run 1 0 (call update_val (int 5 ∷ Var st ∷ [])) Unknown
-    -- a new object is the value of the logic creator
+    -- a new stobj is the value of the logic creator
     ∷ run 100 5
     (WithLocal st (x ∷ st ∷ []) (Mv (cores (call val (Var st ∷ []) ∷ Var st ∷ []))) (Var x))
     (Gives (Plain (number 0) ∷ []) (state 5 3))

@@ -1,4 +1,4 @@
--- The logic value of forms of the same books: no guard, and objects are lists.
+-- The logic value of forms of the same books: no guard, and stobjs are lists.
 use Rattle.std.specs.Prelude.{◌≡◌, ℕ, List, [], ◌∷◌, map, Option, None, pos, negsuc}
 use Rattle.model_objects.specs.Object.{Integer, Symbol, Pair, list_onto}
 use Rattle.model_symbols.specs.Opening.{truth_name, nil_name}
@@ -64,7 +64,7 @@ logic_rows =
     ∷ counted 50 [] (call counting.spin (int 1 ∷ [])) None
     -- where a guard fails: the field is no integer then
     ∷ counted 1000 (st 4) (call counting.update_pc (always ∷ Var counting.st ∷ [])) (found (list (truth ∷ [])) 1)
-    -- a local object
+    -- a local stobj
     ∷ counted 1000 [] (call counting.local (int 9 ∷ [])) (found (number 9) 4)
     -- several values are a list, and are taken from one
     ∷ counted 1000 [] (Mv (cores (int 1 ∷ int 2 ∷ []))) (found (numbers (1 ∷ 2 ∷ [])) 0)
@@ -78,7 +78,7 @@ logic_rows =
     ∷ run several.book 1000 ((several.par, parent 0 0) ∷ []) (several.call_two 0 1) (found (parent 1 2) 7)
     ∷ []
 
--- the object as a list whose hash field, the third, is this
+-- the stobj as a list whose hash field, the third, is this
 abbrev hashed : Thing → Values
 hashed pairs = (fields.st, list (numbers (1 ∷ []) ∷ numbers [] ∷ pairs ∷ [])) ∷ []
 
@@ -95,7 +95,7 @@ key = int 5
 abbrev mixed : Thing
 mixed = list (number 9 ∷ Pair (number 5) (number 1) ∷ nil ∷ Pair (number 6) (number 2) ∷ Pair (number 5) (number 3) ∷ [])
 
--- functions of arrays and hash fields on lists that no object has
+-- functions of arrays and hash fields on lists that no stobj has
 unfoldable pub odd_rows : List LogicRow
 odd_rows =
     on mixed (call fields.h_get (key ∷ Var fields.st ∷ [])) (number 1)
@@ -114,6 +114,6 @@ odd_rows =
     ∷ on nil (call fields.update_ai (int 2 ∷ int 9 ∷ Var fields.st ∷ [])) (list (list (number 1 ∷ nil ∷ number 9 ∷ []) ∷ nil ∷ nil ∷ []))
     ∷ on nil (call fields.resize_b (int 2 ∷ Var fields.st ∷ [])) (list (numbers (1 ∷ []) ∷ numbers (7 ∷ 7 ∷ []) ∷ nil ∷ []))
     ∷ on nil (call fields.resize_b (always ∷ Var fields.st ∷ [])) (after nil)
-    -- an object that is no list
+    -- a stobj that is no list
     ∷ run fields.book 10 ((fields.st, number 3) ∷ []) (call fields.b_length (Var fields.st ∷ [])) (found (number 0) 1)
     ∷ []

@@ -11,13 +11,13 @@ pub fn logic_values()
     ensures { LogicIsRight logic_rows }
 {}
 
-/// The functions of an object in the logic, on lists that no object has.
+/// The functions of a stobj in the logic, on lists that no stobj has.
 #[tactic(auto, using(crate::proofs::Computed::odd_lists))]
 pub fn odd_lists()
     ensures { LogicIsRight odd_rows }
 {}
 
-/// Abstract evaluation of exports, and of a new abstract object.
+/// Abstract evaluation of exports, and of a new abstract stobj.
 #[tactic(auto, using(crate::proofs::Computed::abstract_values))]
 pub fn abstract_values()
     ensures { AbstractlyRight abstractly.abstract_rows }

@@ -7,12 +7,12 @@ use Rattle.model_terms.specs.declared.rule.Mode.{Mode}
 use Rattle.model_terms.specs.declared.rule.Mode.TheVariants.{Executable, Logic, Macro}
 use Rattle.model_terms.specs.Cores.{Core, Cores, none, more, Var, If, Let, Mv, MvLet, StobjLet, WithLocal, MustBeEqual, Call, count}
 use Rattle.model_terms.specs.Worlds.{World, Out, Ordinary, Stobj, Scope}
-use Rattle.model_terms.specs.Classes.{is_object_name}
+use Rattle.model_terms.specs.Classes.{is_stobj_name}
 use Rattle.model_terms.specs.Scopes.{in_scope, kind_of, name_kinds, binding, producer_scope, consumer_scope, local_scope, body_scope}
-use Rattle.model_terms.specs.Sites.{Placed, down, here, below, below_parts, below_actuals, one_ordinary, parent_in, first_kind, other_kinds, formal_object, actual_expected, ins_of}
+use Rattle.model_terms.specs.Sites.{Placed, down, here, below, below_parts, below_actuals, one_ordinary, parent_in, first_kind, other_kinds, formal_stobj, actual_expected, ins_of}
 use Rattle.model_terms.specs.Nested.{same_kind, same_kinds}
 use Rattle.model_terms.specs.Rules.{rule_fails, is_misplaced}
-use Rattle.model_terms.specs.Children.{runs}
+use Rattle.model_terms.specs.Accessors.{runs}
 use Rattle.model_terms.specs.Faults.{first_fault}
 use Rattle.model_terms_laws.specs.Laws.{AllHold}
 use Rattle.model_accepted.specs.Accepted.{Hold, Accepted, PartsAccepted, ActualsAccepted}
@@ -103,8 +103,8 @@ actuals_accepted : (c : World) (mode : Mode) (scope : Scope) (ins : List Out) (k
 unfolding below
 actuals_accepted c mode scope ins k none all = tt
 actuals_accepted c mode scope ins k (more f fs) all =
-    let both : Accepted c mode scope f (formal_object (first_kind ins)) (actual_expected (first_kind ins) f) × Hold c mode (below_actuals c scope (other_kinds ins) (k + 1) fs)
-    = first_kid c mode k scope f (formal_object (first_kind ins)) (actual_expected (first_kind ins) f) (below_actuals c scope (other_kinds ins) (k + 1) fs) all in
+    let both : Accepted c mode scope f (formal_stobj (first_kind ins)) (actual_expected (first_kind ins) f) × Hold c mode (below_actuals c scope (other_kinds ins) (k + 1) fs)
+    = first_kid c mode k scope f (formal_stobj (first_kind ins)) (actual_expected (first_kind ins) f) (below_actuals c scope (other_kinds ins) (k + 1) fs) all in
     (both.0, actuals_accepted c mode scope (other_kinds ins) (k + 1) fs both.1)
 
 module _ (c : World) (mode : Mode) (scope : Scope) (formal : Option ℕ) (expected : List Out) where
@@ -140,11 +140,11 @@ module _ (c : World) (mode : Mode) (scope : Scope) (formal : Option ℕ) (expect
   of_stobj_let names bound vars producer consumer all =
       two_kids c mode (producer_scope c scope (parent_in bound) names) (consumer_scope c scope names vars) producer consumer (name_kinds c vars) expected all.1
 
-  pub of_with_local : (object : ℕ) (names : List ℕ) (producer body : Core) → Accepted c mode scope (WithLocal object names producer body) formal expected
-      → Accepted c mode (local_scope c scope object) producer None (name_kinds c names) × Accepted c mode (body_scope c scope object names) body None expected
+  pub of_with_local : (stobj : ℕ) (names : List ℕ) (producer body : Core) → Accepted c mode scope (WithLocal stobj names producer body) formal expected
+      → Accepted c mode (local_scope c scope stobj) producer None (name_kinds c names) × Accepted c mode (body_scope c scope stobj names) body None expected
   unfolding below
-  of_with_local object names producer body all =
-      two_kids c mode (local_scope c scope object) (body_scope c scope object names) producer body (name_kinds c names) expected all.1
+  of_with_local stobj names producer body all =
+      two_kids c mode (local_scope c scope stobj) (body_scope c scope stobj names) producer body (name_kinds c names) expected all.1
 
   pub of_must_be_equal : (logic exec : Core) → Accepted c mode scope (MustBeEqual logic exec) formal expected
       → Accepted c mode scope logic None expected × Accepted c mode scope exec None expected
@@ -231,7 +231,7 @@ module _ (c : World) (mode : Mode) (p : Placed) (n : mode ≢ Logic) (all : AllH
 -- a variable is in scope
 pub var_in_scope : (c : World) (mode : Mode) (scope : Scope) (x : ℕ) (formal : Option ℕ) (expected : List Out) → mode ≢ Logic → AllHold c mode (here (Var x) scope formal expected) → in_scope scope x ≡ true
 var_in_scope c Executable scope x formal expected n all = not_false (in_scope scope x) (all S11)
-var_in_scope c Macro scope x formal expected n all = go (in_scope scope x) (is_object_name c x) (all S11) (all S15)
+var_in_scope c Macro scope x formal expected n all = go (in_scope scope x) (is_stobj_name c x) (all S11) (all S15)
   where
     go : (a b : Bool) → (not a && not b) ≡ false → b ≡ false → a ≡ true
     go true b e f = refl

@@ -8,22 +8,22 @@ use Rattle.model_objects.specs.Object.{Object, Integer, Symbol, Text, Pair}
 use Rattle.model_prims.specs.Kinds.{by_number}
 use Rattle.model_lists.specs.Lists.{StobjList, Value, Pairs, End, Item, size, item, with_item}
 use Rattle.model_lists.specs.Layouts.{Layout, Scalar, Array, Hash, Children, NoField, Field}
-use Rattle.model_lists.specs.Generated.{is_index}
-use Rattle.model_lists.specs.Standing.{HasFields, AllItems}
+use Rattle.model_lists.specs.Effects.{is_index}
+use Rattle.model_lists.specs.LiveLists.{HasFields, AllItems}
 use Rattle.model_terms.specs.Cores.{Core, Cores, none, more, Reached, reached}
 use Rattle.model_terms.specs.Worlds.{World, Definition, definition, Primitive, Defined, Macro, Constant, Concrete, Generated, Abstract, OfAbstract, Named, Signed, Out, Ordinary, Scope}
 use Rattle.model_terms.specs.Worlds as worlds
 use Rattle.model_terms.specs.Classes as classes
-use Rattle.model_terms.specs.Classes.{has, repeats, congruent, is_object_name}
+use Rattle.model_terms.specs.Classes.{has, repeats, congruent, is_stobj_name}
 use Rattle.model_terms.specs.Scopes.{kind_of}
-use Rattle.model_terms.specs.Children.{Holds, One, Many, ChildAccessor, child_accessor}
+use Rattle.model_terms.specs.Accessors.{HeldStobjs, One, Many, ChildAccessor, child_accessor}
 use Rattle.model_terms.specs.Sites.{parent_in}
-use Rattle.model_terms.specs.Nested.{BoundChild, takes_index, bound_child_by, bound_child, with_child, bound_children, child_object, is_stobj, stands_for, have_parent, have_names, have_indices, same_child, same_index, bind_twice, are_vars, parent_expected, bindings_hold, stobj_let_holds}
+use Rattle.model_terms.specs.Nested.{BoundChild, takes_index, bound_child_by, bound_child, with_bound_child, bound_children, child_stobj, is_stobj, stands_for, have_parent, have_names, have_indices, same_child, same_constant_index, bind_twice, are_vars, parent_expected, bindings_hold, stobj_let_holds}
 use Rattle.model_eval.specs.Keeping.{Loan}
-use Rattle.model_eval.specs.Worlds.{layout_within, defined_layout, fields_layout, most_nested}
+use Rattle.model_eval.specs.StobjLayouts.{layout_within, defined_layout, fields_layout, most_nested}
 use Rattle.model_eval.specs.PlacesKeeping.{index_path, list_under, with_under}
-use Rattle.model_eval.specs.Children as eval
-use Rattle.model_eval.specs.Children.{field_of, is_reached, are_twins}
+use Rattle.model_eval.specs.Lending as eval
+use Rattle.model_eval.specs.Lending.{field_number, is_reached, are_twins}
 use Rattle.model_eval_laws.proofs.Lists.{same_number}
 use Rattle.model_places.specs.Places.{ArePathsApart, IsPath}
 use Rattle.model_accepted.specs.Threaded.{layout_of, IsField, Fits}
@@ -84,7 +84,7 @@ items_kept Is n new End k h = tt
 items_kept Is zero new (Item first rest) k h = (k, h.1)
 items_kept Is (suc n) new (Item first rest) k h = (h.0, items_kept Is n new rest k h.1)
 
--- the layout of an object is no array of children
+-- the layout of a stobj is no array of children
 IsWhole : Layout ℕ → Type 0
 IsWhole (Scalar t o) = ⊥
 IsWhole (Array t o m resizable) = ⊥
@@ -126,7 +126,7 @@ not_children w x m child e = subst IsWhole e (whole_within w (suc most_nested) x
 abbrev pub IsIndexed : World → StobjList ℕ → Loan ℕ → Layout ℕ → Type 0
 IsIndexed w parent l field = (n : ℕ) × (m : ℕ) × (l.index ≡ Some (Integer (pos n))) × (n < size (item l.field parent)) × (field ≡ Children m (layout_of w l.child))
 
--- a loan of a bound child of object p, which has this list
+-- a loan of a bound child of stobj p, which has this list
 pub record IsLoan (w : World) (p : ℕ) (parent : StobjList ℕ) (b : BoundChild) (l : Loan ℕ) : Type 0 where
   pub child : l.child ≡ b.name
   pub from : l.parent ≡ p
@@ -217,7 +217,7 @@ module _ (w : World) (p : ℕ) (parent : StobjList ℕ) (fits : Fits w p parent)
               numbers : l.field ≡ m.field → nat_eq b.accessor.field d.accessor.field ≡ true
               numbers e = rw (← i.number, ← j.number, e) (same_number m.field)
 
-              one_child : (a q : Option Core) → a ≡ None → q ≡ None → nat_eq b.accessor.field d.accessor.field ≡ true → (nat_eq b.accessor.field d.accessor.field && same_index a q) ≡ true
+              one_child : (a q : Option Core) → a ≡ None → q ≡ None → nat_eq b.accessor.field d.accessor.field ≡ true → (nat_eq b.accessor.field d.accessor.field && same_constant_index a q) ≡ true
               one_child a q f g n = rw (f, g, n) refl
           by_kinds (inl f) (inr g) same fields = absurd (not_children w l.child g.1 (layout_of w m.child) (sym f.2 ∙ (fields ∙ g.4)))
           by_kinds (inr f) (inl g) same fields = absurd (not_children w m.child f.1 (layout_of w l.child) (sym g.2 ∙ (sym fields ∙ f.4)))
@@ -263,31 +263,31 @@ module _ (w : World) (p : ℕ) (parent : StobjList ℕ) (fits : Fits w p parent)
 
 -- ---- the rule
 
--- each child is one of object p, and has a name that is congruent to it
+-- each child is one of stobj p, and has a name that is congruent to it
 abbrev pub AreBound : World → ℕ → List BoundChild → Type 0
 AreBound c p [] = Unit {0}
-AreBound c p (b ∷ bs) = (b.parent ≡ p) × (congruent c b.accessor.object p ≡ true) × (congruent c (child_object b.accessor.holds) b.name ≡ true) × AreBound c p bs
+AreBound c p (b ∷ bs) = (b.parent ≡ p) × (congruent c b.accessor.stobj p ≡ true) × (congruent c (child_stobj b.accessor.holds) b.name ≡ true) × AreBound c p bs
 
 pub record StobjLetHolds (c : World) (scope : Scope) (expected : List Out) (names : List ℕ) (forms : Cores) (vars : List ℕ) : Type 0 where
   pub bs : List BoundChild
   pub bound : bound_children c names forms ≡ Some bs
   pub parent : ℕ
   pub first : parent_in forms ≡ Some parent
-  pub object : is_stobj (kind_of scope parent) ≡ true
+  pub stobj : is_stobj (kind_of scope parent) ≡ true
   pub all : AreBound c parent bs
   pub distinct : repeats (parent ∷ map (λ (b : BoundChild). b.name) bs) ≡ false
   pub twice : bind_twice bs ≡ false
-  pub children_only : (x : ℕ) → has vars x ≡ true → is_object_name c x ≡ true → has names x ≡ true
+  pub children_only : (x : ℕ) → has vars x ≡ true → is_stobj_name c x ≡ true → has names x ≡ true
   pub parent_out : (x : ℕ) → has vars x ≡ true → has names x ≡ true → has (classes.stobjs expected) parent ≡ true
 
-all_bound : (c : World) (scope : Scope) (p : ℕ) (bs : List BoundChild) → list_all (λ (b : BoundChild). nat_eq b.parent p && stands_for c scope p b.accessor.object) bs ≡ true
-    → list_all (λ (b : BoundChild). congruent c (child_object b.accessor.holds) b.name) bs ≡ true → AreBound c p bs
+all_bound : (c : World) (scope : Scope) (p : ℕ) (bs : List BoundChild) → list_all (λ (b : BoundChild). nat_eq b.parent p && stands_for c scope p b.accessor.stobj) bs ≡ true
+    → list_all (λ (b : BoundChild). congruent c (child_stobj b.accessor.holds) b.name) bs ≡ true → AreBound c p bs
 all_bound c scope p [] h i = tt
 all_bound c scope p (b ∷ bs) h i =
-    let first : ((nat_eq b.parent p && stands_for c scope p b.accessor.object) ≡ true) × (list_all (λ (b : BoundChild). nat_eq b.parent p && stands_for c scope p b.accessor.object) bs ≡ true) = both_true _ _ h in
-    let second : (congruent c (child_object b.accessor.holds) b.name ≡ true) × (list_all (λ (b : BoundChild). congruent c (child_object b.accessor.holds) b.name) bs ≡ true) = both_true _ _ i in
-    let parent : (nat_eq b.parent p ≡ true) × (stands_for c scope p b.accessor.object ≡ true) = both_true (nat_eq b.parent p) (stands_for c scope p b.accessor.object) first.0 in
-    let stands : (is_stobj (kind_of scope p) ≡ true) × (congruent c b.accessor.object p ≡ true) = both_true (is_stobj (kind_of scope p)) (congruent c b.accessor.object p) parent.1 in
+    let first : ((nat_eq b.parent p && stands_for c scope p b.accessor.stobj) ≡ true) × (list_all (λ (b : BoundChild). nat_eq b.parent p && stands_for c scope p b.accessor.stobj) bs ≡ true) = both_true _ _ h in
+    let second : (congruent c (child_stobj b.accessor.holds) b.name ≡ true) × (list_all (λ (b : BoundChild). congruent c (child_stobj b.accessor.holds) b.name) bs ≡ true) = both_true _ _ i in
+    let parent : (nat_eq b.parent p ≡ true) × (stands_for c scope p b.accessor.stobj ≡ true) = both_true (nat_eq b.parent p) (stands_for c scope p b.accessor.stobj) first.0 in
+    let stands : (is_stobj (kind_of scope p) ≡ true) × (congruent c b.accessor.stobj p ≡ true) = both_true (is_stobj (kind_of scope p)) (congruent c b.accessor.stobj p) parent.1 in
     (eqb-true b.parent p parent.0, stands.1, second.0, all_bound c scope p bs first.1 second.1)
 
 -- what a binding is
@@ -327,7 +327,7 @@ pub record AreBindings (c : World) (x : ℕ) (xs : List ℕ) (f : Core) (fs : Co
 pub bindings_are : (c : World) (x : ℕ) (xs : List ℕ) (f : Core) (fs : Cores) (bs : List BoundChild) → bound_children c (x ∷ xs) (more f fs) ≡ Some bs → AreBindings c x xs f fs bs
 bindings_are c x xs f fs bs e = go (bound_child c x f) refl e
   where
-    go : (b : Option BoundChild) → bound_child c x f ≡ b → with_child b (bound_children c xs fs) ≡ Some bs → AreBindings c x xs f fs bs
+    go : (b : Option BoundChild) → bound_child c x f ≡ b → with_bound_child b (bound_children c xs fs) ≡ Some bs → AreBindings c x xs f fs bs
     go None i h = none_some h
     go (Some b) i h = by_rest (bound_children c xs fs) refl h
       where
@@ -361,11 +361,11 @@ pub stobj_let_is : (c : World) (scope : Scope) (expected : List Out) (names : Li
 unfolding stobj_let_holds
 stobj_let_is c scope expected names forms vars e = go (bound_children c names forms) refl e
   where
-    vars_only : (vs : List ℕ) → are_vars c names vs ≡ true → (x : ℕ) → has vs x ≡ true → is_object_name c x ≡ true → has names x ≡ true
+    vars_only : (vs : List ℕ) → are_vars c names vs ≡ true → (x : ℕ) → has vs x ≡ true → is_stobj_name c x ≡ true → has names x ≡ true
     vars_only [] h x i o = false_true i
     vars_only (v ∷ vs) h x i o =
-        let both : (not (repeats (v ∷ vs)) ≡ true) × (list_all (λ x. has names x || not (is_object_name c x)) (v ∷ vs) ≡ true) = both_true (not (repeats (v ∷ vs))) (list_all (λ x. has names x || not (is_object_name c x)) (v ∷ vs)) h in
-        either (has names x) (is_object_name c x) (all_has (λ x. has names x || not (is_object_name c x)) (v ∷ vs) x both.1 i) o
+        let both : (not (repeats (v ∷ vs)) ≡ true) × (list_all (λ x. has names x || not (is_stobj_name c x)) (v ∷ vs) ≡ true) = both_true (not (repeats (v ∷ vs))) (list_all (λ x. has names x || not (is_stobj_name c x)) (v ∷ vs)) h in
+        either (has names x) (is_stobj_name c x) (all_has (λ x. has names x || not (is_stobj_name c x)) (v ∷ vs) x both.1 i) o
       where
         either : (a b : Bool) → (a || not b) ≡ true → b ≡ true → a ≡ true
         either true b f g = refl
@@ -405,16 +405,16 @@ stobj_let_is c scope expected names forms vars e = go (bound_children c names fo
         let four : (not (bind_twice (b ∷ bs)) ≡ true) × ((are_vars c names vars && parent_expected names vars p expected) ≡ true)
         = both_true (not (bind_twice (b ∷ bs))) (are_vars c names vars && parent_expected names vars p expected) three.1 in
         let five : (are_vars c names vars ≡ true) × (parent_expected names vars p expected ≡ true) = both_true (are_vars c names vars) (parent_expected names vars p expected) four.1 in
-        let distinct : (not (repeats (p ∷ map (λ (b : BoundChild). b.name) (b ∷ bs))) ≡ true) × (list_all (λ (b : BoundChild). congruent c (child_object b.accessor.holds) b.name) (b ∷ bs) ≡ true)
-        = both_true (not (repeats (p ∷ map (λ (b : BoundChild). b.name) (b ∷ bs)))) (list_all (λ (b : BoundChild). congruent c (child_object b.accessor.holds) b.name) (b ∷ bs)) two.0 in
-        let stands : (is_stobj (kind_of scope p) ≡ true) × (congruent c b.accessor.object p ≡ true)
-        = both_true (is_stobj (kind_of scope p)) (congruent c b.accessor.object p) (both_true (nat_eq b.parent p) (stands_for c scope p b.accessor.object) (both_true (nat_eq b.parent p && stands_for c scope p b.accessor.object) (have_parent c scope p bs) one.0).0).1 in
+        let distinct : (not (repeats (p ∷ map (λ (b : BoundChild). b.name) (b ∷ bs))) ≡ true) × (list_all (λ (b : BoundChild). congruent c (child_stobj b.accessor.holds) b.name) (b ∷ bs) ≡ true)
+        = both_true (not (repeats (p ∷ map (λ (b : BoundChild). b.name) (b ∷ bs)))) (list_all (λ (b : BoundChild). congruent c (child_stobj b.accessor.holds) b.name) (b ∷ bs)) two.0 in
+        let stands : (is_stobj (kind_of scope p) ≡ true) × (congruent c b.accessor.stobj p ≡ true)
+        = both_true (is_stobj (kind_of scope p)) (congruent c b.accessor.stobj p) (both_true (nat_eq b.parent p) (stands_for c scope p b.accessor.stobj) (both_true (nat_eq b.parent p && stands_for c scope p b.accessor.stobj) (have_parent c scope p bs) one.0).0).1 in
         record {
           bs = b ∷ bs;
           bound = i;
           parent = p;
           first = first_parent c names forms b bs i;
-          object = stands.0;
+          stobj = stands.0;
           all = all_bound c scope p (b ∷ bs) one.0 distinct.1;
           distinct = not_true (repeats (p ∷ map (λ (b : BoundChild). b.name) (b ∷ bs))) distinct.0;
           twice = not_true (bind_twice (b ∷ bs)) four.0;
@@ -423,7 +423,7 @@ stobj_let_is c scope expected names forms vars e = go (bound_children c names fo
         }
 
 -- the index of a loan suits its field
-pub index_kind : (holds : Holds) (index : Option Core) → takes_index holds index ≡ true → ((x : ℕ) × (holds ≡ One x) × (index ≡ None)) ⊎ ((x : ℕ) × (i : Core) × (holds ≡ Many x) × (index ≡ Some i))
+pub index_kind : (holds : HeldStobjs) (index : Option Core) → takes_index holds index ≡ true → ((x : ℕ) × (holds ≡ One x) × (index ≡ None)) ⊎ ((x : ℕ) × (i : Core) × (holds ≡ Many x) × (index ≡ Some i))
 index_kind (One x) None e = inl (x, refl, refl)
 index_kind (One x) (Some i) e = false_true e
 index_kind (Many x) None e = false_true e

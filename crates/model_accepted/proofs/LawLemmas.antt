@@ -23,7 +23,7 @@ pub variables_fit : VariablesFit
 variables_fit = record {
   of_bound = λ c scope names values variables a v. scopes.bound_variables c scope names values variables a v;
   of_local = scopes.local_variables;
-  of_body = λ c scope object names values variables a v. scopes.body_variables c scope object names values variables a v;
+  of_body = λ c scope stobj names values variables a v. scopes.body_variables c scope stobj names values variables a v;
   of_producer = λ c scope parent ls variables o v. kids.producer_variables c scope parent (children ls) ls refl variables o v;
   of_consumer = λ c scope inside ls vars values variables a v. kids.consumer_variables c scope 0 (children ls) ls refl inside vars values variables a v;
 }

@@ -8,12 +8,12 @@ use Rattle.model_prims.specs.Kinds.{by_number}
 use Rattle.model_terms.specs.Worlds.{World, Out, Ordinary, Entry, Scope}
 use Rattle.model_terms.specs.Worlds as worlds
 use Rattle.model_terms.specs.Classes as classes
-use Rattle.model_terms.specs.Classes.{has, is_object_name}
+use Rattle.model_terms.specs.Classes.{has, is_stobj_name}
 use Rattle.model_terms.specs.Scopes.{kind_in, name_kind, name_kinds, entry, binding, without, ordinary_names, other_names, local_scope, body_scope}
-use Rattle.model_eval.specs.Outcomes.{Shown, Plain, Stobj}
-use Rattle.model_eval.specs.Scopes.{Variables, variable_in, bound}
+use Rattle.model_eval.specs.Outcomes.{Shown, Plain, StobjNamed}
+use Rattle.model_eval.specs.Variables.{Variables, variable_in, bound}
 use Rattle.model_eval_laws.proofs.Lists.{same_number}
-use Rattle.model_accepted.specs.Scopes.{IsStobj, IsOfKind, AreVariables, IsOutput, AreOutputs}
+use Rattle.model_accepted.specs.StobjScopes.{IsStobj, IsOfKind, AreVariables, IsOutput, AreOutputs}
 use Rattle.model_accepted.proofs.AcceptLemmas.{false_true, true_false}
 
 -- ---- kinds
@@ -74,65 +74,65 @@ kind_bound c scope names x = kind_append scope (map (entry c) names) x ∙ rw (k
 
 -- ---- names that are bound
 
-pub name_is_object : (c : World) (x : ℕ) → is_object_name c x ≡ true → name_kind c x ≡ worlds.Stobj x
+pub name_is_object : (c : World) (x : ℕ) → is_stobj_name c x ≡ true → name_kind c x ≡ worlds.Stobj x
 name_is_object c x e = rw e refl
 
-pub name_is_ordinary : (c : World) (x : ℕ) → is_object_name c x ≡ false → name_kind c x ≡ Ordinary
+pub name_is_ordinary : (c : World) (x : ℕ) → is_stobj_name c x ≡ false → name_kind c x ≡ Ordinary
 name_is_ordinary c x e = rw e refl
 
-pub has_ordinary : (c : World) (names : List ℕ) (x : ℕ) → has (ordinary_names c names) x ≡ (has names x && not (is_object_name c x))
+pub has_ordinary : (c : World) (names : List ℕ) (x : ℕ) → has (ordinary_names c names) x ≡ (has names x && not (is_stobj_name c x))
 has_ordinary c [] x = refl
-has_ordinary c (y ∷ ys) x = go (is_object_name c y) refl (nat_eq x y) refl (is_object_name c x) refl (has_ordinary c ys x)
+has_ordinary c (y ∷ ys) x = go (is_stobj_name c y) refl (nat_eq x y) refl (is_stobj_name c x) refl (has_ordinary c ys x)
   where
-    go : (a : Bool) → is_object_name c y ≡ a → (b : Bool) → nat_eq x y ≡ b → (d : Bool) → is_object_name c x ≡ d → has (ordinary_names c ys) x ≡ (has ys x && not d)
+    go : (a : Bool) → is_stobj_name c y ≡ a → (b : Bool) → nat_eq x y ≡ b → (d : Bool) → is_stobj_name c x ≡ d → has (ordinary_names c ys) x ≡ (has ys x && not d)
         → has (if not a then y ∷ ordinary_names c ys else ordinary_names c ys) x ≡ ((b || has ys x) && not d)
     go true f true g true h i = i ∙ nothing (has ys x)
       where
         nothing : (b : Bool) → (b && false) ≡ false
         nothing true = refl
         nothing false = refl
-    go true f true g false h i = true_false (sym f ∙ (ap (is_object_name c) (sym (eqb-true x y g)) ∙ h))
+    go true f true g false h i = true_false (sym f ∙ (ap (is_stobj_name c) (sym (eqb-true x y g)) ∙ h))
     go true f false g d h i = i
-    go false f true g true h i = true_false (sym h ∙ (ap (is_object_name c) (eqb-true x y g) ∙ f))
+    go false f true g true h i = true_false (sym h ∙ (ap (is_stobj_name c) (eqb-true x y g) ∙ f))
     go false f true g false h i = rw g refl
     go false f false g d h i = rw g i
 
 -- ---- values that are bound
 
--- an object among the outputs of names is in the scope
-pub output_object : (c : World) (scope : Scope) (names : List ℕ) (values : List (Shown ℕ)) (x : ℕ) → AreOutputs scope (name_kinds c names) values → has names x ≡ true → is_object_name c x ≡ true → IsStobj scope x
+-- a stobj among the outputs of names is in the scope
+pub output_object : (c : World) (scope : Scope) (names : List ℕ) (values : List (Shown ℕ)) (x : ℕ) → AreOutputs scope (name_kinds c names) values → has names x ≡ true → is_stobj_name c x ≡ true → IsStobj scope x
 output_object c scope [] values x a h o = false_true h
 output_object c scope (y ∷ ys) [] x a h o = absurd a
 output_object c scope (y ∷ ys) (v ∷ vs) x a h o = go (nat_eq x y) refl h (output_object c scope ys vs x a.1)
   where
     here : (v : Shown ℕ) → IsOutput scope (worlds.Stobj x) v → IsStobj scope x
     here (Plain p) i = absurd i
-    here (Stobj z) i = i.1
+    here (StobjNamed z) i = i.1
 
-    go : (b : Bool) → nat_eq x y ≡ b → (b || has ys x) ≡ true → (has ys x ≡ true → is_object_name c x ≡ true → IsStobj scope x) → IsStobj scope x
+    go : (b : Bool) → nat_eq x y ≡ b → (b || has ys x) ≡ true → (has ys x ≡ true → is_stobj_name c x ≡ true → IsStobj scope x) → IsStobj scope x
     go true e g later = here v (subst (λ (k : Out). IsOutput scope k v) (name_is_object c x o) (subst (λ (z : ℕ). IsOutput scope (name_kind c z) v) (sym (eqb-true x y e)) a.0))
     go false e g later = later g o
 
-pub kind_or : (c : World) (x : ℕ) → (is_object_name c x ≡ true) ⊎ (is_object_name c x ≡ false)
-kind_or c x = go (is_object_name c x) refl
+pub kind_or : (c : World) (x : ℕ) → (is_stobj_name c x ≡ true) ⊎ (is_stobj_name c x ≡ false)
+kind_or c x = go (is_stobj_name c x) refl
   where
-    go : (b : Bool) → is_object_name c x ≡ b → (is_object_name c x ≡ true) ⊎ (is_object_name c x ≡ false)
+    go : (b : Bool) → is_stobj_name c x ≡ b → (is_stobj_name c x ≡ true) ⊎ (is_stobj_name c x ≡ false)
     go true e = inl e
     go false e = inr e
 
--- a name that is not bound, or is an object's, keeps its variable
+-- a name that is not bound, or is a stobj's, keeps its variable
 pub bound_skips : (c : World) (scope : Scope) (names : List ℕ) (values : List (Shown ℕ)) (variables : Variables ℕ) (x : ℕ) → AreOutputs scope (name_kinds c names) values
     → has (ordinary_names c names) x ≡ false → variable_in by_number (bound names values variables) x ≡ variable_in by_number variables x
 bound_skips c scope [] values variables x a h = refl
 bound_skips c scope (y ∷ ys) [] variables x a h = refl
-bound_skips c scope (y ∷ ys) (Stobj z ∷ vs) variables x a h = bound_skips c scope ys vs variables x a.1 (go (is_object_name c y) refl h)
+bound_skips c scope (y ∷ ys) (StobjNamed z ∷ vs) variables x a h = bound_skips c scope ys vs variables x a.1 (go (is_stobj_name c y) refl h)
   where
-    go : (b : Bool) → is_object_name c y ≡ b → has (if not b then y ∷ ordinary_names c ys else ordinary_names c ys) x ≡ false → has (ordinary_names c ys) x ≡ false
+    go : (b : Bool) → is_stobj_name c y ≡ b → has (if not b then y ∷ ordinary_names c ys else ordinary_names c ys) x ≡ false → has (ordinary_names c ys) x ≡ false
     go true e g = g
-    go false e g = absurd (subst (λ (k : Out). IsOutput scope k (Stobj z)) (name_is_ordinary c y e) a.0)
-bound_skips c scope (y ∷ ys) (Plain o ∷ vs) variables x a h = go (is_object_name c y) refl (nat_eq x y) refl h (bound_skips c scope ys vs variables x a.1)
+    go false e g = absurd (subst (λ (k : Out). IsOutput scope k (StobjNamed z)) (name_is_ordinary c y e) a.0)
+bound_skips c scope (y ∷ ys) (Plain o ∷ vs) variables x a h = go (is_stobj_name c y) refl (nat_eq x y) refl h (bound_skips c scope ys vs variables x a.1)
   where
-    go : (b : Bool) → is_object_name c y ≡ b → (d : Bool) → nat_eq x y ≡ d → has (if not b then y ∷ ordinary_names c ys else ordinary_names c ys) x ≡ false
+    go : (b : Bool) → is_stobj_name c y ≡ b → (d : Bool) → nat_eq x y ≡ d → has (if not b then y ∷ ordinary_names c ys else ordinary_names c ys) x ≡ false
         → (has (ordinary_names c ys) x ≡ false → variable_in by_number (bound ys vs variables) x ≡ variable_in by_number variables x)
         → (if d then Plain o else variable_in by_number (bound ys vs variables) x) ≡ variable_in by_number variables x
     go true e d f g later = absurd (subst (λ (k : Out). IsOutput scope k (Plain o)) (name_is_object c y e) a.0)
@@ -144,14 +144,14 @@ pub bound_ordinary : (c : World) (scope : Scope) (names : List ℕ) (values : Li
     → has (ordinary_names c names) x ≡ true → IsOfKind x Ordinary (variable_in by_number (bound names values variables) x)
 bound_ordinary c scope [] values variables x a h = false_true h
 bound_ordinary c scope (y ∷ ys) [] variables x a h = absurd a
-bound_ordinary c scope (y ∷ ys) (Stobj z ∷ vs) variables x a h = bound_ordinary c scope ys vs variables x a.1 (go (is_object_name c y) refl h)
+bound_ordinary c scope (y ∷ ys) (StobjNamed z ∷ vs) variables x a h = bound_ordinary c scope ys vs variables x a.1 (go (is_stobj_name c y) refl h)
   where
-    go : (b : Bool) → is_object_name c y ≡ b → has (if not b then y ∷ ordinary_names c ys else ordinary_names c ys) x ≡ true → has (ordinary_names c ys) x ≡ true
+    go : (b : Bool) → is_stobj_name c y ≡ b → has (if not b then y ∷ ordinary_names c ys else ordinary_names c ys) x ≡ true → has (ordinary_names c ys) x ≡ true
     go true e g = g
-    go false e g = absurd (subst (λ (k : Out). IsOutput scope k (Stobj z)) (name_is_ordinary c y e) a.0)
-bound_ordinary c scope (y ∷ ys) (Plain o ∷ vs) variables x a h = go (is_object_name c y) refl (nat_eq x y) refl h (bound_ordinary c scope ys vs variables x a.1)
+    go false e g = absurd (subst (λ (k : Out). IsOutput scope k (StobjNamed z)) (name_is_ordinary c y e) a.0)
+bound_ordinary c scope (y ∷ ys) (Plain o ∷ vs) variables x a h = go (is_stobj_name c y) refl (nat_eq x y) refl h (bound_ordinary c scope ys vs variables x a.1)
   where
-    go : (b : Bool) → is_object_name c y ≡ b → (d : Bool) → nat_eq x y ≡ d → has (if not b then y ∷ ordinary_names c ys else ordinary_names c ys) x ≡ true
+    go : (b : Bool) → is_stobj_name c y ≡ b → (d : Bool) → nat_eq x y ≡ d → has (if not b then y ∷ ordinary_names c ys else ordinary_names c ys) x ≡ true
         → (has (ordinary_names c ys) x ≡ true → IsOfKind x Ordinary (variable_in by_number (bound ys vs variables) x))
         → IsOfKind x Ordinary (if d then Plain o else variable_in by_number (bound ys vs variables) x)
     go true e d f g later = absurd (subst (λ (k : Out). IsOutput scope k (Plain o)) (name_is_object c y e) a.0)
@@ -166,10 +166,10 @@ some_same e = cc
 pub none_some : {X : Type 0} {a : X} {A : Type 0} → ◌≡◌ {A = Option X} None (Some a) → A
 none_some e = cc
 
-pub ordinary_is : (c : World) (names : List ℕ) (x : ℕ) → has names x ≡ true → is_object_name c x ≡ false → has (ordinary_names c names) x ≡ true
+pub ordinary_is : (c : World) (names : List ℕ) (x : ℕ) → has names x ≡ true → is_stobj_name c x ≡ false → has (ordinary_names c names) x ≡ true
 ordinary_is c names x h o = has_ordinary c names x ∙ rw (h, o) refl
 
-pub ordinary_not : (c : World) (names : List ℕ) (x : ℕ) → is_object_name c x ≡ true → has (ordinary_names c names) x ≡ false
+pub ordinary_not : (c : World) (names : List ℕ) (x : ℕ) → is_stobj_name c x ≡ true → has (ordinary_names c names) x ≡ false
 ordinary_not c names x o = has_ordinary c names x ∙ rw o (nothing (has names x))
   where
     nothing : (b : Bool) → (b && false) ≡ false
@@ -186,7 +186,7 @@ module _ (c : World) (scope : Scope) (names : List ℕ) (values : List (Shown �
       go : (b : Bool) → has names x ≡ b → (if b then Some (name_kind c x) else kind_in scope x) ≡ Some (worlds.Stobj x) → IsStobj scope x
       go true e f = by_kind (kind_or c x)
         where
-          by_kind : (is_object_name c x ≡ true) ⊎ (is_object_name c x ≡ false) → IsStobj scope x
+          by_kind : (is_stobj_name c x ≡ true) ⊎ (is_stobj_name c x ≡ false) → IsStobj scope x
           by_kind (inl o) = output_object c scope names values x a e o
           by_kind (inr o) = ordinary_not_object (some_same (ap (λ (k : Out). Some k) (sym (name_is_ordinary c x o)) ∙ f))
             where
@@ -200,7 +200,7 @@ module _ (c : World) (scope : Scope) (names : List ℕ) (values : List (Shown �
       go : (x : ℕ) (k : Out) (b : Bool) → has names x ≡ b → (if b then Some (name_kind c x) else kind_in scope x) ≡ Some k → IsOfKind x k (variable_in by_number (bound names values variables) x)
       go x k true e f = by_kind (kind_or c x)
         where
-          by_kind : (is_object_name c x ≡ true) ⊎ (is_object_name c x ≡ false) → IsOfKind x k (variable_in by_number (bound names values variables) x)
+          by_kind : (is_stobj_name c x ≡ true) ⊎ (is_stobj_name c x ≡ false) → IsOfKind x k (variable_in by_number (bound names values variables) x)
           by_kind (inl o) =
               subst (λ (m : Out). IsOfKind x m (variable_in by_number (bound names values variables) x)) (sym (name_is_object c x o) ∙ some_same f)
               (subst (λ (u : Shown ℕ). IsOfKind x (worlds.Stobj x) u) (sym (bound_skips c scope names values variables x a (ordinary_not c names x o)))
@@ -210,18 +210,18 @@ module _ (c : World) (scope : Scope) (names : List ℕ) (values : List (Shown �
               (bound_ordinary c scope names values variables x a (ordinary_is c names x e o))
       go x k false e f = subst (λ (u : Shown ℕ). IsOfKind x k u) (sym (bound_skips c scope names values variables x a (ordinary_none c names x e))) (v.each x k f)
 
--- ---- objects among names
+-- ---- stobjs among names
 
-pub has_object : (c : World) (names : List ℕ) (x : ℕ) → has (classes.stobjs (name_kinds c names)) x ≡ (has names x && is_object_name c x)
+pub has_object : (c : World) (names : List ℕ) (x : ℕ) → has (classes.stobjs (name_kinds c names)) x ≡ (has names x && is_stobj_name c x)
 has_object c [] x = refl
-has_object c (y ∷ ys) x = go (is_object_name c y) refl (nat_eq x y) refl (is_object_name c x) refl (has_object c ys x)
+has_object c (y ∷ ys) x = go (is_stobj_name c y) refl (nat_eq x y) refl (is_stobj_name c x) refl (has_object c ys x)
   where
-    go : (a : Bool) → is_object_name c y ≡ a → (b : Bool) → nat_eq x y ≡ b → (d : Bool) → is_object_name c x ≡ d → has (classes.stobjs (name_kinds c ys)) x ≡ (has ys x && d)
+    go : (a : Bool) → is_stobj_name c y ≡ a → (b : Bool) → nat_eq x y ≡ b → (d : Bool) → is_stobj_name c x ≡ d → has (classes.stobjs (name_kinds c ys)) x ≡ (has ys x && d)
         → has (classes.stobjs ((if a then worlds.Stobj y else Ordinary) ∷ name_kinds c ys)) x ≡ ((b || has ys x) && d)
     go true f true g true h i = rw g refl
-    go true f true g false h i = true_false (sym f ∙ (ap (is_object_name c) (sym (eqb-true x y g)) ∙ h))
+    go true f true g false h i = true_false (sym f ∙ (ap (is_stobj_name c) (sym (eqb-true x y g)) ∙ h))
     go true f false g d h i = rw g i
-    go false f true g true h i = true_false (sym h ∙ (ap (is_object_name c) (eqb-true x y g) ∙ f))
+    go false f true g true h i = true_false (sym h ∙ (ap (is_stobj_name c) (eqb-true x y g) ∙ f))
     go false f true g false h i = i ∙ nothing (has ys x)
       where
         nothing : (b : Bool) → (b && false) ≡ false
@@ -238,88 +238,88 @@ all_has P (y ∷ ys) x a h = go (P y) refl (nat_eq x y) refl a h (all_has P ys x
     go true e false f g i later = later g i
     go false e b f g i later = false_true g
 
-pub has_other : (object : ℕ) (names : List ℕ) (x : ℕ) → has (other_names object names) x ≡ (has names x && not (nat_eq x object))
-has_other object [] x = refl
-has_other object (y ∷ ys) x = go (nat_eq y object) refl (nat_eq x y) refl (nat_eq x object) refl (has_other object ys x)
+pub has_other : (stobj : ℕ) (names : List ℕ) (x : ℕ) → has (other_names stobj names) x ≡ (has names x && not (nat_eq x stobj))
+has_other stobj [] x = refl
+has_other stobj (y ∷ ys) x = go (nat_eq y stobj) refl (nat_eq x y) refl (nat_eq x stobj) refl (has_other stobj ys x)
   where
-    go : (a : Bool) → nat_eq y object ≡ a → (b : Bool) → nat_eq x y ≡ b → (d : Bool) → nat_eq x object ≡ d → has (other_names object ys) x ≡ (has ys x && not d)
-        → has (if not a then y ∷ other_names object ys else other_names object ys) x ≡ ((b || has ys x) && not d)
+    go : (a : Bool) → nat_eq y stobj ≡ a → (b : Bool) → nat_eq x y ≡ b → (d : Bool) → nat_eq x stobj ≡ d → has (other_names stobj ys) x ≡ (has ys x && not d)
+        → has (if not a then y ∷ other_names stobj ys else other_names stobj ys) x ≡ ((b || has ys x) && not d)
     go true f true g true h i = i ∙ nothing (has ys x)
       where
         nothing : (b : Bool) → (b && false) ≡ false
         nothing true = refl
         nothing false = refl
-    go true f true g false h i = true_false (sym f ∙ (ap (λ (z : ℕ). nat_eq z object) (sym (eqb-true x y g)) ∙ h))
+    go true f true g false h i = true_false (sym f ∙ (ap (λ (z : ℕ). nat_eq z stobj) (sym (eqb-true x y g)) ∙ h))
     go true f false g d h i = i
-    go false f true g true h i = true_false (sym h ∙ (ap (λ (z : ℕ). nat_eq z object) (eqb-true x y g) ∙ f))
+    go false f true g true h i = true_false (sym h ∙ (ap (λ (z : ℕ). nat_eq z stobj) (eqb-true x y g) ∙ f))
     go false f true g false h i = rw g refl
     go false f false g d h i = rw g i
 
--- ---- the scopes of a local object
+-- ---- the scopes of a local stobj
 
-module _ (c : World) (scope : Scope) (object : ℕ) where
-  -- an object of the producer's scope is the local one, or one around it
-  pub local_object : (x : ℕ) → IsStobj (local_scope c scope object) x → (x ≡ object) ⊎ ((x ≢ object) × IsStobj scope x)
-  local_object x h = go (nat_eq x object) refl (subst (λ (k : Option Out). k ≡ Some (worlds.Stobj x)) (kind_bound c scope (object ∷ []) x) h)
+module _ (c : World) (scope : Scope) (stobj : ℕ) where
+  -- a stobj of the producer's scope is the local one, or one around it
+  pub local_object : (x : ℕ) → IsStobj (local_scope c scope stobj) x → (x ≡ stobj) ⊎ ((x ≢ stobj) × IsStobj scope x)
+  local_object x h = go (nat_eq x stobj) refl (subst (λ (k : Option Out). k ≡ Some (worlds.Stobj x)) (kind_bound c scope (stobj ∷ []) x) h)
     where
-      go : (b : Bool) → nat_eq x object ≡ b → (if b || false then Some (name_kind c x) else kind_in scope x) ≡ Some (worlds.Stobj x) → (x ≡ object) ⊎ ((x ≢ object) × IsStobj scope x)
-      go true e f = inl (eqb-true x object e)
+      go : (b : Bool) → nat_eq x stobj ≡ b → (if b || false then Some (name_kind c x) else kind_in scope x) ≡ Some (worlds.Stobj x) → (x ≡ stobj) ⊎ ((x ≢ stobj) × IsStobj scope x)
+      go true e f = inl (eqb-true x stobj e)
       go false e f = inr (different, f)
         where
-          different : x ≢ object
-          different g = true_false (sym (same_number object) ∙ (ap (λ (z : ℕ). nat_eq z object) (sym g) ∙ e))
+          different : x ≢ stobj
+          different g = true_false (sym (same_number stobj) ∙ (ap (λ (z : ℕ). nat_eq z stobj) (sym g) ∙ e))
 
-  pub local_variables : (variables : Variables ℕ) → is_object_name c object ≡ true → AreVariables scope variables → AreVariables (local_scope c scope object) ((object, Stobj object) ∷ variables)
-  local_variables variables o v = record { each = λ x k h. go x k (nat_eq x object) refl (subst (λ (m : Option Out). m ≡ Some k) (kind_bound c scope (object ∷ []) x) h) }
+  pub local_variables : (variables : Variables ℕ) → is_stobj_name c stobj ≡ true → AreVariables scope variables → AreVariables (local_scope c scope stobj) ((stobj, StobjNamed stobj) ∷ variables)
+  local_variables variables o v = record { each = λ x k h. go x k (nat_eq x stobj) refl (subst (λ (m : Option Out). m ≡ Some k) (kind_bound c scope (stobj ∷ []) x) h) }
     where
-      go : (x : ℕ) (k : Out) (b : Bool) → nat_eq x object ≡ b → (if b || false then Some (name_kind c x) else kind_in scope x) ≡ Some k → IsOfKind x k (if b then Stobj object else variable_in by_number variables x)
+      go : (x : ℕ) (k : Out) (b : Bool) → nat_eq x stobj ≡ b → (if b || false then Some (name_kind c x) else kind_in scope x) ≡ Some k → IsOfKind x k (if b then StobjNamed stobj else variable_in by_number variables x)
       go x k true e f =
-          subst (λ (m : Out). IsOfKind x m (Stobj object)) (ap (name_kind c) (sym (eqb-true x object e)) ∙ some_same f)
-          (subst (λ (m : Out). IsOfKind x m (Stobj object)) (sym (name_is_object c object o)) (sym (eqb-true x object e), ap Stobj (sym (eqb-true x object e))))
+          subst (λ (m : Out). IsOfKind x m (StobjNamed stobj)) (ap (name_kind c) (sym (eqb-true x stobj e)) ∙ some_same f)
+          (subst (λ (m : Out). IsOfKind x m (StobjNamed stobj)) (sym (name_is_object c stobj o)) (sym (eqb-true x stobj e), ap StobjNamed (sym (eqb-true x stobj e))))
       go x k false e f = v.each x k f
 
   -- the scope after it
-  module _ (names : List ℕ) (values : List (Shown ℕ)) (variables : Variables ℕ) (a : AreOutputs (local_scope c scope object) (name_kinds c names) values) where
-    without_object : (x : ℕ) (k : Out) → kind_in (without (object ∷ []) scope) x ≡ Some k → (nat_eq x object ≡ false) × (kind_in scope x ≡ Some k)
-    without_object x k h = go (nat_eq x object) refl (subst (λ (m : Option Out). m ≡ Some k) (kind_without (object ∷ []) scope x) h)
+  module _ (names : List ℕ) (values : List (Shown ℕ)) (variables : Variables ℕ) (a : AreOutputs (local_scope c scope stobj) (name_kinds c names) values) where
+    without_object : (x : ℕ) (k : Out) → kind_in (without (stobj ∷ []) scope) x ≡ Some k → (nat_eq x stobj ≡ false) × (kind_in scope x ≡ Some k)
+    without_object x k h = go (nat_eq x stobj) refl (subst (λ (m : Option Out). m ≡ Some k) (kind_without (stobj ∷ []) scope x) h)
       where
-        go : (b : Bool) → nat_eq x object ≡ b → (if b || false then None else kind_in scope x) ≡ Some k → (nat_eq x object ≡ false) × (kind_in scope x ≡ Some k)
+        go : (b : Bool) → nat_eq x stobj ≡ b → (if b || false then None else kind_in scope x) ≡ Some k → (nat_eq x stobj ≡ false) × (kind_in scope x ≡ Some k)
         go true e f = none_some f
         go false e f = (e, f)
 
-    bound_outside : (x : ℕ) → has (other_names object names) x ≡ true → is_object_name c x ≡ true → IsStobj scope x
-    bound_outside x h o = go (has names x) refl (nat_eq x object) refl (subst (λ (b : Bool). b ≡ true) (has_other object names x) h)
+    bound_outside : (x : ℕ) → has (other_names stobj names) x ≡ true → is_stobj_name c x ≡ true → IsStobj scope x
+    bound_outside x h o = go (has names x) refl (nat_eq x stobj) refl (subst (λ (b : Bool). b ≡ true) (has_other stobj names x) h)
       where
-        go : (b : Bool) → has names x ≡ b → (d : Bool) → nat_eq x object ≡ d → (b && not d) ≡ true → IsStobj scope x
+        go : (b : Bool) → has names x ≡ b → (d : Bool) → nat_eq x stobj ≡ d → (b && not d) ≡ true → IsStobj scope x
         go true e true f g = false_true g
-        go true e false f g = by_place (local_object x (output_object c (local_scope c scope object) names values x a e o))
+        go true e false f g = by_place (local_object x (output_object c (local_scope c scope stobj) names values x a e o))
           where
-            by_place : (x ≡ object) ⊎ ((x ≢ object) × IsStobj scope x) → IsStobj scope x
-            by_place (inl i) = true_false (sym (same_number object) ∙ (ap (λ (z : ℕ). nat_eq z object) (sym i) ∙ f))
+            by_place : (x ≡ stobj) ⊎ ((x ≢ stobj) × IsStobj scope x) → IsStobj scope x
+            by_place (inl i) = true_false (sym (same_number stobj) ∙ (ap (λ (z : ℕ). nat_eq z stobj) (sym i) ∙ f))
             by_place (inr i) = i.1
         go false e d f g = false_true g
 
-    has_names : (x : ℕ) → has (other_names object names) x ≡ true → has names x ≡ true
-    has_names x h = go (has names x) refl (nat_eq x object) (subst (λ (b : Bool). b ≡ true) (has_other object names x) h)
+    has_names : (x : ℕ) → has (other_names stobj names) x ≡ true → has names x ≡ true
+    has_names x h = go (has names x) refl (nat_eq x stobj) (subst (λ (b : Bool). b ≡ true) (has_other stobj names x) h)
       where
         go : (b : Bool) → has names x ≡ b → (d : Bool) → (b && not d) ≡ true → has names x ≡ true
         go true e d g = e
         go false e d g = false_true g
 
-    has_no_name : (x : ℕ) → has (other_names object names) x ≡ false → nat_eq x object ≡ false → has names x ≡ false
-    has_no_name x h i = go (has names x) refl (subst (λ (b : Bool). b ≡ false) (has_other object names x ∙ rw i refl) h)
+    has_no_name : (x : ℕ) → has (other_names stobj names) x ≡ false → nat_eq x stobj ≡ false → has names x ≡ false
+    has_no_name x h i = go (has names x) refl (subst (λ (b : Bool). b ≡ false) (has_other stobj names x ∙ rw i refl) h)
       where
         go : (b : Bool) → has names x ≡ b → (b && true) ≡ false → has names x ≡ false
         go true e g = true_false g
         go false e g = e
 
-    pub body_objects : (x : ℕ) → IsStobj (body_scope c scope object names) x → IsStobj scope x
-    body_objects x h = go (has (other_names object names) x) refl (subst (λ (k : Option Out). k ≡ Some (worlds.Stobj x)) (kind_bound c (without (object ∷ []) scope) (other_names object names) x) h)
+    pub body_objects : (x : ℕ) → IsStobj (body_scope c scope stobj names) x → IsStobj scope x
+    body_objects x h = go (has (other_names stobj names) x) refl (subst (λ (k : Option Out). k ≡ Some (worlds.Stobj x)) (kind_bound c (without (stobj ∷ []) scope) (other_names stobj names) x) h)
       where
-        go : (b : Bool) → has (other_names object names) x ≡ b → (if b then Some (name_kind c x) else kind_in (without (object ∷ []) scope) x) ≡ Some (worlds.Stobj x) → IsStobj scope x
+        go : (b : Bool) → has (other_names stobj names) x ≡ b → (if b then Some (name_kind c x) else kind_in (without (stobj ∷ []) scope) x) ≡ Some (worlds.Stobj x) → IsStobj scope x
         go true e f = by_kind (kind_or c x)
           where
-            by_kind : (is_object_name c x ≡ true) ⊎ (is_object_name c x ≡ false) → IsStobj scope x
+            by_kind : (is_stobj_name c x ≡ true) ⊎ (is_stobj_name c x ≡ false) → IsStobj scope x
             by_kind (inl o) = bound_outside x e o
             by_kind (inr o) = ordinary_not_object (some_same (ap (λ (k : Out). Some k) (sym (name_is_ordinary c x o)) ∙ f))
               where
@@ -327,21 +327,21 @@ module _ (c : World) (scope : Scope) (object : ℕ) where
                 ordinary_not_object g = cc
         go false e f = (without_object x (worlds.Stobj x) f).1
 
-    pub body_variables : AreVariables scope variables → AreVariables (body_scope c scope object names) (bound names values variables)
-    body_variables v = record { each = λ x k h. go x k (has (other_names object names) x) refl (subst (λ (m : Option Out). m ≡ Some k) (kind_bound c (without (object ∷ []) scope) (other_names object names) x) h) }
+    pub body_variables : AreVariables scope variables → AreVariables (body_scope c scope stobj names) (bound names values variables)
+    body_variables v = record { each = λ x k h. go x k (has (other_names stobj names) x) refl (subst (λ (m : Option Out). m ≡ Some k) (kind_bound c (without (stobj ∷ []) scope) (other_names stobj names) x) h) }
       where
-        go : (x : ℕ) (k : Out) (b : Bool) → has (other_names object names) x ≡ b → (if b then Some (name_kind c x) else kind_in (without (object ∷ []) scope) x) ≡ Some k
+        go : (x : ℕ) (k : Out) (b : Bool) → has (other_names stobj names) x ≡ b → (if b then Some (name_kind c x) else kind_in (without (stobj ∷ []) scope) x) ≡ Some k
             → IsOfKind x k (variable_in by_number (bound names values variables) x)
         go x k true e f = by_kind (kind_or c x)
           where
-            by_kind : (is_object_name c x ≡ true) ⊎ (is_object_name c x ≡ false) → IsOfKind x k (variable_in by_number (bound names values variables) x)
+            by_kind : (is_stobj_name c x ≡ true) ⊎ (is_stobj_name c x ≡ false) → IsOfKind x k (variable_in by_number (bound names values variables) x)
             by_kind (inl o) =
                 subst (λ (m : Out). IsOfKind x m (variable_in by_number (bound names values variables) x)) (sym (name_is_object c x o) ∙ some_same f)
-                (subst (λ (u : Shown ℕ). IsOfKind x (worlds.Stobj x) u) (sym (bound_skips c (local_scope c scope object) names values variables x a (ordinary_not c names x o)))
+                (subst (λ (u : Shown ℕ). IsOfKind x (worlds.Stobj x) u) (sym (bound_skips c (local_scope c scope stobj) names values variables x a (ordinary_not c names x o)))
                 (v.each x (worlds.Stobj x) (bound_outside x e o)))
             by_kind (inr o) =
                 subst (λ (m : Out). IsOfKind x m (variable_in by_number (bound names values variables) x)) (sym (name_is_ordinary c x o) ∙ some_same f)
-                (bound_ordinary c (local_scope c scope object) names values variables x a (ordinary_is c names x (has_names x e) o))
+                (bound_ordinary c (local_scope c scope stobj) names values variables x a (ordinary_is c names x (has_names x e) o))
         go x k false e f =
-            let around : (nat_eq x object ≡ false) × (kind_in scope x ≡ Some k) = without_object x k f in
-            subst (λ (u : Shown ℕ). IsOfKind x k u) (sym (bound_skips c (local_scope c scope object) names values variables x a (ordinary_none c names x (has_no_name x e around.0)))) (v.each x k around.1)
+            let around : (nat_eq x stobj ≡ false) × (kind_in scope x ≡ Some k) = without_object x k f in
+            subst (λ (u : Shown ℕ). IsOfKind x k u) (sym (bound_skips c (local_scope c scope stobj) names values variables x a (ordinary_none c names x (has_no_name x e around.0)))) (v.each x k around.1)

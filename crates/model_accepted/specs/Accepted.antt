@@ -4,7 +4,7 @@ use Rattle.std.specs.List.{AllByRecursion}
 use Rattle.model_terms.specs.declared.rule.Mode.{Mode}
 use Rattle.model_terms.specs.Cores.{Core, Cores, none, more}
 use Rattle.model_terms.specs.Worlds.{World, Out, Scope}
-use Rattle.model_terms.specs.Sites.{Placed, here, below, first_kind, other_kinds, formal_object, actual_expected}
+use Rattle.model_terms.specs.Sites.{Placed, here, below, first_kind, other_kinds, formal_stobj, actual_expected}
 use Rattle.model_terms_laws.specs.Laws.{AllHold}
 
 -- all rules hold at each of some places
@@ -23,4 +23,4 @@ PartsAccepted c mode scope kinds (more f fs) = Accepted c mode scope f None (fir
 abbrev pub ActualsAccepted : World → Mode → Scope → List Out → Cores → Type 0
 ActualsAccepted c mode scope ins none = Unit {0}
 ActualsAccepted c mode scope ins (more f fs) =
-    Accepted c mode scope f (formal_object (first_kind ins)) (actual_expected (first_kind ins) f) × ActualsAccepted c mode scope (other_kinds ins) fs
+    Accepted c mode scope f (formal_stobj (first_kind ins)) (actual_expected (first_kind ins) f) × ActualsAccepted c mode scope (other_kinds ins) fs

@@ -1,5 +1,5 @@
 pub mod Threaded
-pub mod Scopes
+pub mod StobjScopes
 pub mod Loans
 pub mod Accepted
 pub mod Laws

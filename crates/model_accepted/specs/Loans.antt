@@ -6,9 +6,9 @@ use Rattle.model_terms.specs.Classes.{has, repeats}
 use Rattle.model_eval.specs.Outcomes.{Stobjs}
 use Rattle.model_eval.specs.Keeping.{Loan}
 use Rattle.model_eval.specs.PlacesKeeping.{index_path, list_under, with_under}
-use Rattle.model_eval.specs.Scopes.{list_of, with_list}
+use Rattle.model_eval.specs.Variables.{list_of, with_list}
 use Rattle.model_places.specs.Places.{ArePathsApart, IsPath}
-use Rattle.model_accepted.specs.Scopes.{IsStobj}
+use Rattle.model_accepted.specs.StobjScopes.{IsStobj}
 use Rattle.model_accepted.specs.Threaded.{Fits}
 
 abbrev pub children : List (Loan ℕ) → List ℕ
@@ -41,7 +41,7 @@ abbrev pub merged : List (Loan ℕ) → Stobjs ℕ → StobjList ℕ → StobjLi
 merged [] kids parent = parent
 merged (l ∷ ls) kids parent = merged ls kids (with_under (path_of l) (list_of kids l.child) parent)
 
--- the objects around, with the parent so
+-- the stobjs around, with the parent so
 abbrev pub raised : ℕ → List (Loan ℕ) → Stobjs ℕ → Stobjs ℕ → Stobjs ℕ
 raised p ls kids stobjs = with_list p (merged ls kids (list_of stobjs p)) stobjs
 
@@ -50,7 +50,7 @@ abbrev pub loans_among : List ℕ → List (Loan ℕ) → List (Loan ℕ)
 loans_among vars [] = []
 loans_among vars (l ∷ ls) = if has vars l.child then l ∷ loans_among vars ls else loans_among vars ls
 
--- loans of children of one object, which has this list: no child is another or in it, and each may be written
+-- loans of children of one stobj, which has this list: no child is another or in it, and each may be written
 pub record AreLent (w : World) (p : ℕ) (parent : StobjList ℕ) (ls : List (Loan ℕ)) : Type 0 where
   pub parents : HaveParent p ls
   pub apart : HaveApartPaths ls
@@ -60,6 +60,6 @@ pub record AreLent (w : World) (p : ℕ) (parent : StobjList ℕ) (ls : List (Lo
   pub fits : (x : ℕ) → has (children ls) x ≡ true → Fits w x (list_under (path_for ls x) parent)
   pub keeps : (x : ℕ) → has (children ls) x ≡ true → (m new : StobjList ℕ) → Fits w p m → Fits w x new → Fits w p (with_under (path_for ls x) new m)
 
--- an object that is in scope while children are lent: a child, or another object that is not the parent
+-- a stobj that is in scope while children are lent: a child, or another stobj that is not the parent
 abbrev pub IsInside : Scope → ℕ → List (Loan ℕ) → ℕ → Type 0
 IsInside scope p ls x = (has (children ls) x ≡ true) ⊎ ((has (children ls) x ≡ false) × (x ≢ p) × IsStobj scope x)

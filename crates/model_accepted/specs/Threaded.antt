@@ -3,7 +3,7 @@ use Rattle.std.specs.Prelude.{◌≡◌, ℕ, zero, suc, List, [], ◌∷◌, ma
 use Rattle.model_objects.specs.Object.{Object}
 use Rattle.model_lists.specs.Lists.{StobjList}
 use Rattle.model_lists.specs.Layouts.{Layout, Scalar, Array, Hash, Children, NoField, Field, field_layout}
-use Rattle.model_lists.specs.Standing.{HasFields}
+use Rattle.model_lists.specs.LiveLists.{HasFields}
 use Rattle.model_terms.specs.declared.rule.Mode.TheVariants.{Executable}
 use Rattle.model_terms.specs.declared.role.Role.{Role}
 use Rattle.model_terms.specs.declared.role.Role.TheVariants as role
@@ -13,12 +13,12 @@ use Rattle.model_terms.specs.Worlds.{World, Definition, Defined, Generated, OfAb
 use Rattle.model_terms.specs.Classes as classes
 use Rattle.model_terms.specs.Classes.{congruent, repeats}
 use Rattle.model_terms.specs.Outputs.{signature_in, signature_of}
-use Rattle.model_terms.specs.Children.{Holds, One, Many, ChildAccessor, child_accessor, is_internal, is_executable}
+use Rattle.model_terms.specs.Accessors.{HeldStobjs, One, Many, ChildAccessor, child_accessor, is_internal, is_executable}
 use Rattle.model_terms.specs.Sites.{one_ordinary}
 use Rattle.model_terms.specs.Faults.{first_fault}
-use Rattle.model_eval.specs.Worlds.{stobj_layout}
-use Rattle.model_eval.specs.Children.{field_of}
-use Rattle.model_eval_alike.specs.Standing.{SuitsRole}
+use Rattle.model_eval.specs.StobjLayouts.{stobj_layout}
+use Rattle.model_eval.specs.Lending.{field_number}
+use Rattle.model_eval_alike.specs.FunctionLaws.{SuitsRole}
 
 -- ---- forms
 
@@ -35,7 +35,7 @@ unfoldable mutual
   IsFormed c (Mv parts) = AreFormed c parts
   IsFormed c (MvLet names bound body) = IsFormed c bound × IsFormed c body
   IsFormed c (StobjLet names bound vars producer consumer) = IsFormed c producer × IsFormed c consumer
-  IsFormed c (WithLocal object names producer body) = IsFormed c producer × IsFormed c body
+  IsFormed c (WithLocal stobj names producer body) = IsFormed c producer × IsFormed c body
   IsFormed c (MustBeEqual logic exec) = IsFormed c logic × IsFormed c exec
   IsFormed c (Call f actuals) = HasArity c f (count actuals) × AreFormed c actuals
 
@@ -45,11 +45,11 @@ unfoldable mutual
 
 -- ---- layouts
 
--- the layout of an object, symbols by number
+-- the layout of a stobj, symbols by number
 abbrev pub layout_of : World → ℕ → Layout ℕ
 layout_of w x = stobj_layout (λ (o : Object ℕ). o) w x
 
--- a list that the object may have
+-- a list that the stobj may have
 abbrev pub Fits : World → ℕ → StobjList ℕ → Type 0
 Fits w x l = HasFields (layout_of w x) l
 
@@ -63,8 +63,8 @@ IsField n NoField field = ⊥
 IsField zero (Field first others) field = first ≡ field
 IsField (suc n) (Field first others) field = IsField n others field
 
--- a field that holds an object, or an array of objects
-abbrev pub IsHeld : World → Holds → Layout ℕ → Type 0
+-- a field that holds a stobj, or an array of stobjs
+abbrev pub IsHeld : World → HeldStobjs → Layout ℕ → Type 0
 IsHeld w (One x) field = field ≡ layout_of w x
 IsHeld w (Many x) field = (n : ℕ) × (field ≡ Children n (layout_of w x))
 
@@ -80,9 +80,9 @@ pub record Runs (w : World) (f : ℕ) (s : Signature) : Type 0 where
 
 -- the accessor of a child of a field
 pub record Reaches (w : World) (f : ℕ) (a : ChildAccessor) : Type 0 where
-  pub number : field_of (definition w f) ≡ a.field
+  pub number : field_number (definition w f) ≡ a.field
   pub field : Layout ℕ
-  pub there : IsField a.field (layout_of w a.object) field
+  pub there : IsField a.field (layout_of w a.stobj) field
   pub held : IsHeld w a.holds field
 
 -- what was found in the world of the check still stands
@@ -93,7 +93,7 @@ pub record Suits (c w : World) : Type 0 where
 
 -- ---- definitions
 
--- each formal is ordinary, or it is the object of its name
+-- each formal is ordinary, or it is the stobj of its name
 abbrev pub AreFormals : List ℕ → List Out → Type 0
 AreFormals [] [] = Unit {0}
 AreFormals [] (k ∷ ks) = ⊥
@@ -119,41 +119,41 @@ pub record IsAdmitted (w : World) (f : Function) : Type 0 where
   pub guard : IsChecked w f.formals f.signature.ins f.guard one_ordinary
   pub body : IsChecked w f.formals f.signature.ins f.body f.signature.outs
 
--- the outputs of a function that an object comes with, but of the creator
+-- the outputs of a function that a stobj comes with, but of the creator
 abbrev pub role_outs : Role → ℕ → List Out
-role_outs role.Recognizer object = one_ordinary
-role_outs role.Creator object = Stobj object ∷ []
-role_outs role.FieldRecognizer object = one_ordinary
-role_outs role.Access object = one_ordinary
-role_outs role.Update object = Stobj object ∷ []
-role_outs role.Length object = one_ordinary
-role_outs role.Resize object = Stobj object ∷ []
-role_outs role.HashGet object = one_ordinary
-role_outs role.HashBoundp object = one_ordinary
-role_outs role.HashGetBound object = Ordinary ∷ Ordinary ∷ []
-role_outs role.HashPut object = Stobj object ∷ []
-role_outs role.HashRem object = Stobj object ∷ []
-role_outs role.HashCount object = one_ordinary
-role_outs role.HashClear object = Stobj object ∷ []
+role_outs role.Recognizer stobj = one_ordinary
+role_outs role.Creator stobj = Stobj stobj ∷ []
+role_outs role.FieldRecognizer stobj = one_ordinary
+role_outs role.Access stobj = one_ordinary
+role_outs role.Update stobj = Stobj stobj ∷ []
+role_outs role.Length stobj = one_ordinary
+role_outs role.Resize stobj = Stobj stobj ∷ []
+role_outs role.HashGet stobj = one_ordinary
+role_outs role.HashBoundp stobj = one_ordinary
+role_outs role.HashGetBound stobj = Ordinary ∷ Ordinary ∷ []
+role_outs role.HashPut stobj = Stobj stobj ∷ []
+role_outs role.HashRem stobj = Stobj stobj ∷ []
+role_outs role.HashCount stobj = one_ordinary
+role_outs role.HashClear stobj = Stobj stobj ∷ []
 
--- what a function writes is its only object
+-- what a function writes is its only stobj
 pub record IsMade (w : World) (g : GeneratedFunction) : Type 0 where
-  pub outs : g.signature.outs ≡ role_outs g.role g.object
-  pub only : g.signature.outs ≡ Stobj g.object ∷ [] → classes.stobjs g.signature.ins ≡ g.object ∷ []
-  pub suits : SuitsRole g.role (field_layout (unwrap_or g.field 0) (layout_of w g.object))
+  pub outs : g.signature.outs ≡ role_outs g.role g.stobj
+  pub only : g.signature.outs ≡ Stobj g.stobj ∷ [] → classes.stobjs g.signature.ins ≡ g.stobj ∷ []
+  pub suits : SuitsRole g.role (field_layout (unwrap_or g.field 0) (layout_of w g.stobj))
 
--- every object is the foundation in the exec function and the abstract object in the export
+-- every stobj is the foundation in the exec function and the abstract stobj in the export
 abbrev pub abstracted : ℕ → Out → Out
-abstracted object Ordinary = Ordinary
-abstracted object (Stobj x) = Stobj object
+abstracted stobj Ordinary = Ordinary
+abstracted stobj (Stobj x) = Stobj stobj
 
--- each object is this one
+-- each stobj is this one
 abbrev pub AreOnly : ℕ → List Out → Type 0
 AreOnly x [] = Unit {0}
 AreOnly x (Ordinary ∷ ks) = AreOnly x ks
 AreOnly x (Stobj y ∷ ks) = (y ≡ x) × AreOnly x ks
 
--- a definition that is of no abstract object
+-- a definition that is of no abstract stobj
 abbrev pub IsConcrete : Definition → Type 0
 IsConcrete (OfAbstract f) = ⊥
 IsConcrete d = Unit {0}
@@ -163,12 +163,12 @@ pub record IsExport (w : World) (f : FunctionOfAbstract) : Type 0 where
   pub distinct : repeats f.formals ≡ false
   pub guard : IsChecked w f.formals f.signature.ins f.guard one_ordinary
   pub foundation : ℕ
-  pub alike : layout_of w f.object ≡ layout_of w foundation
+  pub alike : layout_of w f.stobj ≡ layout_of w foundation
   pub signature : Signature
   pub runs : Runs w f.exec signature
   pub concrete : IsConcrete runs.there
-  pub ins : f.signature.ins ≡ map (abstracted f.object) signature.ins
-  pub outs : f.signature.outs ≡ map (abstracted f.object) signature.outs
+  pub ins : f.signature.ins ≡ map (abstracted f.stobj) signature.ins
+  pub outs : f.signature.outs ≡ map (abstracted f.stobj) signature.outs
   pub only : classes.stobjs signature.ins ≡ foundation ∷ []
   pub only_outs : AreOnly foundation signature.outs
 

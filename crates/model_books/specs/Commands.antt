@@ -1,4 +1,4 @@
--- A command: its answer, its calls, and the session after it.
+-- A command: its answer, its calls, and the session after it (ACL2's manual, topic EVENTS).
 use Rattle.std.specs.Prelude.{ℕ, ◌+◌, List, [], ◌∷◌, ◌++◌, map, Bool, true, false, Option, Some, None, codes, option_map, option_and_then, unwrap_or, nat_eq, if◌then◌else◌}
 use Rattle.std.specs.Option.{option_map_or}
 use Rattle.std.specs.Str.{bytes_eq}
@@ -11,15 +11,16 @@ use Rattle.model_terms.specs.Cores.{Core}
 use Rattle.model_terms.specs.Worlds.{World, Stobj, Entry, Scope}
 use Rattle.model_terms.specs.Faults.{Fault, expression_fault}
 use Rattle.model_eval.specs.Outcomes.{Shown, Stop, Depth, Stobjs, here, State, Outcome, Gives, Stops, Unknown}
-use Rattle.model_eval.specs.Worlds.{new_list}
+use Rattle.model_eval.specs.StobjLayouts.{new_list}
 use Rattle.model_eval.specs.Checked.{checked, begun, live}
-use Rattle.model_expansion.specs.Forms.{elements, symbol, among, name_of, is_keyword}
+use Rattle.model_expansion.specs.Forms.{elements, symbol, symbol_name, is_keyword}
 use Rattle.model_expansion.specs.Faults.{Refusal, BadShape, Expand, Thread, NotSupported}
 use Rattle.model_expansion.specs.Expansion.{Setting, Progress, at_start, evaluated_to, Expanded, Makes, Fails, expanded}
 use Rattle.model_stobjs.specs.Answers.{EventResult, Grants, Refuses, Halts}
 use Rattle.model_stobjs.specs.Heads.{event_heads, is_skipped, is_unsupported}
-use Rattle.model_events.specs.Events.{Standing, Limits, Said, Admitted, setting, admitted}
+use Rattle.model_events.specs.Events.{Environment, Limits, Said, Admitted, setting, admitted}
 use Rattle.model_books.specs.Opening.{Session}
+use Rattle.model_terms.specs.Classes.{has}
 
 -- an answer, over any kind of symbols
 pub data Answer (S : Type 0) : Type 0 where
@@ -48,7 +49,7 @@ pub record Ways (O : Type 0) : Type 0 where
   pub skipped : O
   pub refused : Refusal → O  -- a refusal that counts nothing and changes nothing
   pub expression : Object ℕ → O
-  pub show : ℕ → Option O  -- a live object; None where none has the name
+  pub show : ℕ → Option O  -- a live stobj; None where none has the name
   pub cells : O
 
 module _ {O : Type 0} (ways : Ways O) (symbols : List QualifiedName) where
@@ -65,13 +66,13 @@ module _ {O : Type 0} (ways : Ways O) (symbols : List QualifiedName) where
 
   abbrev pub keyword_way : ℕ → Object ℕ → O
   keyword_way head d =
-      if bytes_eq (name_of symbols head) (codes "SHOW") then unwrap_or (option_and_then ways.show (only_symbol (elements d))) (bad_shape head)
-      else if bytes_eq (name_of symbols head) (codes "CELLS") then cells_way head (elements d)
+      if bytes_eq (symbol_name symbols head) (codes "SHOW") then unwrap_or (option_and_then ways.show (only_symbol (elements d))) (bad_shape head)
+      else if bytes_eq (symbol_name symbols head) (codes "CELLS") then cells_way head (elements d)
       else ways.refused (NotSupported head)
 
   abbrev pub headed_way : ℕ → Object ℕ → O
   headed_way head d =
-      if among head event_heads then ways.event head d
+      if has event_heads head then ways.event head d
       else if is_skipped head then ways.skipped
       else if is_unsupported head then ways.refused (NotSupported head)
       else if is_keyword symbols head then keyword_way head d
@@ -86,11 +87,11 @@ module _ {O : Type 0} (ways : Ways O) (symbols : List QualifiedName) where
 
 -- ---- answers
 
--- each live object under its own name
+-- each live stobj under its own name
 abbrev pub live_scope : {S : Type 0} → Stobjs S → Scope
 live_scope stobjs = map (λ o. record { name = o.0; kind = Stobj o.0 }) stobjs
 
-module _ (k : Limits) (s : Session) where
+module _ (bounds : Limits) (s : Session) where
   abbrev pub with_symbols : Progress → Session
   with_symbols p = record s { symbols = p.symbols }
 
@@ -103,13 +104,13 @@ module _ (k : Limits) (s : Session) where
 
   -- ---- events
 
-  abbrev pub with_created : Standing → Option ℕ → Stobjs ℕ
-  with_created standing None = s.stobjs
-  with_created standing (Some x) = s.stobjs ++ (x, new_list standing.world x) ∷ []
+  abbrev pub with_created : Environment → Option ℕ → Stobjs ℕ
+  with_created environment None = s.stobjs
+  with_created environment (Some x) = s.stobjs ++ (x, new_list environment.world x) ∷ []
 
   abbrev pub event_outcome : EventResult Admitted → Answered
   event_outcome (Grants a p) =
-      outcome (record { standing = a.standing; symbols = p.symbols; stobjs = with_created a.standing a.created }) (Event a.said) p
+      outcome (record { environment = a.environment; symbols = p.symbols; stobjs = with_created a.environment a.created }) (Event a.said) p
   event_outcome (Refuses r p) = outcome (with_symbols p) (Refused r) p
   event_outcome (Halts stop inside p) = outcome (with_symbols p) (Stopped stop inside) p
 
@@ -126,15 +127,15 @@ module _ (k : Limits) (s : Session) where
   abbrev pub core_outcome : Core → Progress → Option Fault → Answered
   core_outcome f p (Some fault) = outcome (with_symbols p) (Refused (Thread fault)) p
   core_outcome f p None =
-      evaluated_outcome p (checked s.standing.world s.standing.packages k.steps k.depth f (live s.stobjs) (begun p.symbols s.stobjs p.calls))
+      evaluated_outcome p (checked s.environment.world s.environment.packages bounds.steps bounds.depth f (live s.stobjs) (begun p.symbols s.stobjs p.calls))
 
   abbrev pub expanded_outcome : Expanded Core → Answered
-  expanded_outcome (Makes f p) = core_outcome f p (expression_fault s.standing.world (live_scope s.stobjs) f)
+  expanded_outcome (Makes f p) = core_outcome f p (expression_fault s.environment.world (live_scope s.stobjs) f)
   expanded_outcome (Fails fault p) = outcome (with_symbols p) (Refused (Expand fault)) p
 
   -- ---- `:SHOW` and `:CELLS`
 
-  -- the list of a live object
+  -- the list of a live stobj
   abbrev pub live_list : ℕ → Option (StobjList ℕ)
   live_list x = lookup (nat_eq x) s.stobjs
 
@@ -146,10 +147,10 @@ module _ (k : Limits) (s : Session) where
 
   abbrev pub ways : Ways Answered
   ways = record {
-    event = λ head d. event_outcome (admitted s.standing k head d (at_start s.symbols));
+    event = λ head d. event_outcome (admitted s.environment bounds head d (at_start s.symbols));
     skipped = at_once Skipped;
     refused = λ r. at_once (Refused r);
-    expression = λ form. expanded_outcome (expanded (setting s.standing k) form (at_start s.symbols));
+    expression = λ form. expanded_outcome (expanded (setting s.environment bounds) form (at_start s.symbols));
     show = λ x. option_map (λ l. at_once (Show (shown s.symbols l))) (live_list x);
     cells = at_once (Cells (all_cells s.stobjs));
   }

@@ -2,8 +2,8 @@
 use Rattle.std.specs.Prelude.{ℕ, zero, suc, ◌+◌, ◌*◌, ◌/◌, min, List, [], ◌∷◌, ◌++◌, codes}
 use Rattle.std.specs.Fmt.{decimal}
 
-abbrev pub object_line : List ℕ
-object_line = codes "(defstobj st (a :type (array (unsigned-byte 8) (1000000)) :initially 0) (s :type (integer 0 4000000000) :initially 0))"
+abbrev pub stobj_line : List ℕ
+stobj_line = codes "(defstobj st (a :type (array (unsigned-byte 8) (1000000)) :initially 0) (s :type (integer 0 4000000000) :initially 0))"
 
 abbrev pub function_line : List ℕ
 function_line =
@@ -18,8 +18,8 @@ range_line n low = codes "(put-range " ++ (decimal low ++ (codes " " ++ (decimal
 
 -- so many ranges, the first of which has this number
 abbrev pub range_lines : ℕ → ℕ → ℕ → List (List ℕ)
-range_lines n zero k = []
-range_lines n (suc count) k = range_line n (k * most_at_once) ∷ range_lines n count (k + 1)
+range_lines n zero i = []
+range_lines n (suc count) i = range_line n (i * most_at_once) ∷ range_lines n count (i + 1)
 
 abbrev pub ended_lines : List (List ℕ) → List ℕ
 ended_lines [] = []
@@ -27,4 +27,4 @@ ended_lines (l ∷ ls) = l ++ 10 ∷ ended_lines ls
 
 -- the bytes of the book of n elements
 unfoldable pub generated_book : ℕ → List ℕ
-generated_book n = ended_lines (object_line ∷ function_line ∷ (range_lines n ((n + 999) / 1000) 0 ++ codes "(s st)" ∷ []))
+generated_book n = ended_lines (stobj_line ∷ function_line ∷ (range_lines n ((n + 999) / 1000) 0 ++ codes "(s st)" ∷ []))

@@ -7,8 +7,8 @@ use Rattle.model_text.specs.Text.{text_of}
 use Rattle.model_terms.specs.declared.rule.Rule.{Rule}
 use Rattle.model_terms.specs.declared.rule.Rule.TheVariants.{S1, S2, S3, S4, S5, S6, S7, S8, S9, S10, S11, S12, S13, S14, S15, S16}
 use Rattle.model_terms.specs.Faults.{Fault}
-use Rattle.model_eval.specs.Outcomes.{Shown, Plain, Stobj, Stop, Guard, Steps, Depth, Range, Large, Symbols}
-use Rattle.model_expansion.specs.Forms.{list, name_of}
+use Rattle.model_eval.specs.Outcomes.{Shown, Plain, StobjNamed, Stop, Guard, Steps, Depth, Range, Large, Symbols}
+use Rattle.model_expansion.specs.Forms.{list, symbol_name}
 use Rattle.model_expansion.specs.Faults.{ExpandFault, MacroArgs, BadShape, MacroStopped, UnknownFunction, Arity, TooNested, Refusal, NameInUse, BadName, DuplicateFormal, BadDeclare, BadType, BadInitial, CongruenceMismatch, UnknownPackage, PackageExists, ImportClash, SymbolLimit, NotSupported, Thread, Expand, FoundationNotConcrete, MissingFunction, SignatureMismatch, GuardNotExecutable, TooLarge}
 use Rattle.model_stobjs.specs.Obligations.{Obligation, obligation_form}
 use Rattle.model_events.specs.Events.{Said, Name, Names, PackageName, Obliged}
@@ -53,18 +53,18 @@ fault_text f = rule_text f.rule ++ (codes " at " ++ bracketed (map decimal f.pla
 module _ (s : Session) where
   -- the text of an object, in the current package
   abbrev pub printed : Object ℕ → Bytes
-  printed o = text_of s.standing.packages s.standing.current s.symbols o
+  printed o = text_of s.environment.packages s.environment.current s.symbols o
 
   abbrev pub printed_name : ℕ → Bytes
   printed_name x = printed (Symbol x)
 
-  -- the name of an object in lower case in angle brackets
-  abbrev pub object_text : ℕ → Bytes
-  object_text x = codes "<" ++ (map to_ascii_lowercase (name_of s.symbols x) ++ codes ">")
+  -- the name of a stobj in lower case in angle brackets
+  abbrev pub stobj_text : ℕ → Bytes
+  stobj_text x = codes "<" ++ (map to_ascii_lowercase (symbol_name s.symbols x) ++ codes ">")
 
   abbrev pub shown_text : Shown ℕ → Bytes
   shown_text (Plain o) = printed o
-  shown_text (Stobj x) = object_text x
+  shown_text (StobjNamed x) = stobj_text x
 
   abbrev pub values_text : List (Shown ℕ) → Bytes
   values_text [] = bracketed []

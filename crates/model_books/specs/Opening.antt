@@ -9,11 +9,11 @@ use Rattle.model_terms.specs.Worlds.{World, Definition, Primitive, Constant}
 use Rattle.model_eval.specs.Outcomes.{Stobjs}
 use Rattle.model_expansion.specs.Words.{exports_word, main_symbols_word}
 use Rattle.model_expansion.specs.Forms.{list}
-use Rattle.model_events.specs.Events.{Standing}
+use Rattle.model_events.specs.Events.{Environment}
 
--- what commands go by: definitions and packages, the symbols that are known, and the list of each live object by its name
+-- what commands go by: definitions and packages, the symbols that are known, and the list of each live stobj by its name
 pub record Session : Type 0 where
-  pub standing : Standing
+  pub environment : Environment
   pub symbols : List QualifiedName
   pub stobjs : Stobjs ℕ
 
@@ -56,7 +56,7 @@ first_package = 2
 
 unfoldable pub opening_session : Session
 opening_session = record {
-  standing = record { world = opening_world; packages = opening.packages; current = first_package };
+  environment = record { world = opening_world; packages = opening.packages; current = first_package };
   symbols = opening.symbols;
   stobjs = [];
 }

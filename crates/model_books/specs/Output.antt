@@ -80,20 +80,20 @@ abbrev pub answered : Totals → (Session → Totals → Output) → Answered �
 answered t go o = before (lines (answer_lines o.session o.answer)) (go o.session (counted t o))
 
 abbrev pub next_answered : Limits → Session → Totals → (ℕ → Session → Totals → Output) → Next → Output
-next_answered k s t go (Stands f end symbols) = answered t (go end) (command k (record s { symbols = symbols }) (numbered symbols f))
-next_answered k s t go Nothing = ended t
-next_answered k s t go End = ended t
-next_answered k s t go (Faulty c offset) = faulted t c offset
+next_answered bounds s t go (Stands f end symbols) = answered t (go end) (command bounds (record s { symbols = symbols }) (numbered symbols f))
+next_answered bounds s t go Nothing = ended t
+next_answered bounds s t go End = ended t
+next_answered bounds s t go (Faulty c offset) = faulted t c offset
 
 -- the answers to the commands in the bytes that begin at an offset of the input, no more commands than this; each has a byte
 unfoldable pub answers : Limits → ℕ → ℕ → Bytes → Session → Totals → Output
-answers k zero offset bytes s t = ended t
-answers k (suc n) offset bytes s t =
-    next_answered k s t (λ end. answers k n end (drop (end - offset) bytes))
-    (next_at s.standing.packages s.standing.current s.symbols offset bytes true)
+answers bounds zero offset bytes s t = ended t
+answers bounds (suc n) offset bytes s t =
+    next_answered bounds s t (λ end. answers bounds n end (drop (end - offset) bytes))
+    (next_at s.environment.packages s.environment.current s.symbols offset bytes true)
 
 abbrev pub book_output : Limits → Bytes → Output
-book_output k bytes = answers k (length bytes + 1) 0 bytes opening_session no_totals
+book_output bounds bytes = answers bounds (length bytes + 1) 0 bytes opening_session no_totals
 
 abbrev pub given_output : Option Given → Bytes → Output
 given_output None input = record { bytes = []; status = Words }

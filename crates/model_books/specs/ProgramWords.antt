@@ -5,6 +5,7 @@ use Rattle.std.specs.Char.{is_ascii_digit}
 use Rattle.std.specs.List.{list_all}
 use Rattle.std.specs.Str.{bytes_eq}
 use Rattle.std.specs.Str.Parse.{digits_value}
+use Rattle.acl_base.specs.Limits.{most_steps, most_depth}
 use Rattle.model_events.specs.Events.{Limits}
 
 pub record Given : Type 0 where
@@ -16,14 +17,8 @@ pub record Given : Type 0 where
 abbrev pub nothing_given : Given
 nothing_given = record { steps = None; depth = None; generate = None; is_pure = false }
 
-abbrev pub most_steps : ℕ
-most_steps = 10000000
-
 abbrev pub default_steps : ℕ
 default_steps = 1000000
-
-abbrev pub most_depth : ℕ
-most_depth = 200000
 
 abbrev pub most_generated : ℕ
 most_generated = 1000000

@@ -55,10 +55,10 @@ module _ (k : Limits) (s : Session) where
   counted_core : (f : Core) (p : Progress) (fault : Option Fault) → Advanced k.steps (at_start s.symbols) p → IsCounted (core_outcome k s f p fault)
   counted_core f p (Some fault) g = record { counted = g.within (omega arith); outer = omega (arith, g.outer_calls); symbols = g.symbols }
   counted_core f p None g =
-      counted_evaluated p _ g (counts_calls.counts s.standing.world s.standing.packages k.steps k.depth f (live s.stobjs) (begun p.symbols s.stobjs p.calls))
+      counted_evaluated p _ g (counts_calls.counts s.environment.world s.environment.packages k.steps k.depth f (live s.stobjs) (begun p.symbols s.stobjs p.calls))
 
   counted_expanded : (e : Expanded Core) → Advances k.steps (at_start s.symbols) e → IsCounted (expanded_outcome k s e)
-  counted_expanded (Makes f p) h = counted_core f p (expression_fault s.standing.world (live_scope s.stobjs) f) h
+  counted_expanded (Makes f p) h = counted_core f p (expression_fault s.environment.world (live_scope s.stobjs) f) h
   counted_expanded (Fails fault p) h = record { counted = h.0.within (omega arith); outer = omega (arith, h.0.outer_calls); symbols = h.0.symbols }
 
   counted_list : (l : Option (StobjList ℕ)) (answer : StobjList ℕ → Answer ℕ) → ShowHolds IsCounted (ways k s) s.symbols (option_map (λ m. at_once k s (answer m)) l)
@@ -67,10 +67,10 @@ module _ (k : Limits) (s : Session) where
 
   ways_counted : AllWays IsCounted (ways k s) s.symbols
   ways_counted = record {
-    event = λ head d. counted_event (admitted s.standing k head d (at_start s.symbols)) (answers_admitted s.standing k head d (at_start s.symbols));
+    event = λ head d. counted_event (admitted s.environment k head d (at_start s.symbols)) (answers_admitted s.environment k head d (at_start s.symbols));
     skipped = counted_at_once _;
     refused = λ r. counted_at_once _;
-    expression = λ form. counted_expanded _ (expansion_counts.form (setting s.standing k) form (at_start s.symbols));
+    expression = λ form. counted_expanded _ (expansion_counts.form (setting s.environment k) form (at_start s.symbols));
     show = λ x. counted_list (live_list k s x) _;
     cells = counted_at_once _;
   }

@@ -13,25 +13,24 @@ use Rattle.model_eval.specs.Checked.{checked, begun}
 use Rattle.model_eval_laws.proofs.Counts.{longer_then}
 use Rattle.model_eval_laws.proofs.CountLemmas.{counts_calls}
 use Rattle.model_expansion.specs.Words.{in_package_word, defpkg_word, defconst_word, defmacro_word, defstobj_word, defabsstobj_word}
-use Rattle.model_expansion.specs.Forms.{elements, each_of, symbol}
+use Rattle.model_expansion.specs.Forms.{elements, each_of, symbol, symbol_or_nil}
 use Rattle.model_expansion.specs.Faults.{BadShape, Expand, Thread, UnknownPackage}
 use Rattle.model_expansion.specs.Expansion.{Setting, Progress, expanded}
 use Rattle.model_expansion_laws.specs.Counting.{Advanced, Advances}
 use Rattle.model_expansion_laws.proofs.CountLemmas.{advanced_same, advances_then, expansion_counts}
 use Rattle.model_stobjs.specs.Answers.{EventResult, Grants, unless, expanding, first_given}
 use Rattle.model_stobjs.specs.Heads.{name_in_use, bad_name}
-use Rattle.model_stobjs.specs.Objects as stobjs
-use Rattle.model_stobjs.specs.Objects.{Making, MadeNames, with_number, new_name, symbol_beside, name_made, names_made, ShapedField, shaped_fields, symbol_or_nil, object_makings, room_for, bad_type, bad_initial, mismatch, WrittenObject, written_object, descriptor_made, names_then, written_then, descriptor_read, named_descriptor}
+use Rattle.model_stobjs.specs.Descriptors as stobjs
+use Rattle.model_stobjs.specs.Descriptors.{Making, MadeNames, with_number, new_name, symbol_beside, name_made, names_made, ShapedField, shaped_fields, stobj_makings, room_for, bad_type, bad_initial, mismatch, WrittenStobj, written_stobj, descriptor_made, names_then, written_then, descriptor_read, named_descriptor}
 use Rattle.model_stobjs.specs.Abstracts as abstracts
 use Rattle.model_stobjs.specs.Abstracts.{WrittenAbstract, written_abstract, slots, makings, filled, function_refusal, made_then, abstract_then, abstract_read}
 use Rattle.model_stobjs.specs.Obligations.{obligations, too_large}
-use Rattle.model_events.specs.Constants as constants
 use Rattle.model_events.specs.Constants.{valued, constant_evaluated, constant_value, name_and_form, bad_constant_name, constant_then, constant_read, text_and_form, clash_refusal, exists_already, importing, package_of, package_then, package_read, only_text, visible_package, current_then, current_read}
 use Rattle.model_events.specs.Macros as macros
 use Rattle.model_events.specs.Macros.{WrittenMacro, written_macro, macro_formals, body_then, macro_then, macro_read}
 use Rattle.model_events.specs.Functions as functions
 use Rattle.model_events.specs.Functions.{Draft, Candidate, candidate_expanded, all_expanded, with_names, signatures, signed, defined, members, ruled, candidates_then, drafts_then, drafts_of, functions_then, written_functions, functions_read}
-use Rattle.model_events.specs.Events.{Standing, Limits, Obliged, setting, defining, abstract_admitted, admitted}
+use Rattle.model_events.specs.Events.{Environment, Limits, Obliged, setting, defining, abstract_admitted, admitted}
 use Rattle.model_books_laws.proofs.AnswerLemmas.{Answers, answers_later, answers_then, answers_unless, answers_needing, answers_expanding, answers_valued, answers_if}
 
 -- ---- made names
@@ -68,26 +67,26 @@ module _ (limit : ℕ) where
   advanced_names : (p : Progress) (m : MadeNames) → Adds p.symbols m.symbols → Advanced limit p (record p { symbols = m.symbols })
   advanced_names p m h = record { calls = omega arith; within = λ q. q; outer = omega arith; outer_calls = omega arith; symbols = h }
 
-  -- ---- objects
+  -- ---- stobjs
 
-  answers_made : (w : World) (o : WrittenObject) (fs : List ShapedField) (m : MadeNames) (p : Progress) → Adds p.symbols m.symbols → Answers limit p (descriptor_made w o fs m p)
+  answers_made : (w : World) (o : WrittenStobj) (fs : List ShapedField) (m : MadeNames) (p : Progress) → Adds p.symbols m.symbols → Answers limit p (descriptor_made w o fs m p)
   answers_made w o fs m p h =
       let after : Progress = record p { symbols = m.symbols } in
       let d = stobjs.descriptor_with o fs m.numbers in
       answers_later limit p after (descriptor_made w o fs m p) (advanced_names p m h) (answers_unless limit (room_for m) (named_descriptor w d) after
       (answers_unless limit (option_or (name_in_use w (stobjs.new_names d)) (mismatch w d)) (Grants d) after (advanced_same limit after)))
 
-  answers_written : (w : World) (packages : List Package) (o : WrittenObject) (p : Progress) → Answers limit p (written_then w packages o p)
+  answers_written : (w : World) (packages : List Package) (o : WrittenStobj) (p : Progress) → Answers limit p (written_then w packages o p)
   answers_written w packages o p =
       let fs = shaped_fields w o.fields in
-      let ms = object_makings p.symbols (symbol_or_nil o.name) fs in
+      let ms = stobj_makings p.symbols (symbol_or_nil o.name) fs in
       answers_unless limit (option_or (bad_name p.symbols (stobjs.names_tested o)) (option_or (first_given (bad_type w) o.fields) (first_given (bad_initial w) o.fields)))
       (names_then w packages o fs) p (answers_made w o fs (names_made packages o.renaming ms p.symbols) p (adds_names packages o.renaming ms p.symbols))
 
   answers_descriptor : (w : World) (packages : List Package) (d : Object ℕ) (p : Progress) → Answers limit p (descriptor_read w packages d p)
   unfolding descriptor_read
   answers_descriptor w packages d p =
-      answers_needing limit (written_object w p.symbols d) (Expand (BadShape defstobj_word)) (written_then w packages) p (λ o. answers_written w packages o p)
+      answers_needing limit (written_stobj w p.symbols d) (Expand (BadShape defstobj_word)) (written_then w packages) p (λ o. answers_written w packages o p)
 
   answers_made_abstract : (w : World) (a : WrittenAbstract) (m : MadeNames) (p : Progress) → Adds p.symbols m.symbols → Answers limit p (made_then w a m p)
   answers_made_abstract w a m p h =
@@ -131,9 +130,9 @@ module _ (x : Setting) where
 
   answers_constant_then : (c : Object ℕ × Object ℕ) (p : Progress) → Answers x.steps p (constant_then x c p)
   answers_constant_then c p =
-      answers_unless x.steps (option_or (bad_constant_name p.symbols c.0) (name_in_use x.world (constants.number c.0 ∷ [])))
-      (constant_value x c.1 (λ value. Grants (Constant (constants.number c.0) value ∷ []))) p
-      (answers_value c.1 (λ value. Grants (Constant (constants.number c.0) value ∷ [])) p (λ value after. advanced_same x.steps after))
+      answers_unless x.steps (option_or (bad_constant_name p.symbols c.0) (name_in_use x.world (symbol_or_nil c.0 ∷ [])))
+      (constant_value x c.1 (λ value. Grants (Constant (symbol_or_nil c.0) value ∷ []))) p
+      (answers_value c.1 (λ value. Grants (Constant (symbol_or_nil c.0) value ∷ [])) p (λ value after. advanced_same x.steps after))
 
   answers_constant : (d : Object ℕ) (p : Progress) → Answers x.steps p (constant_read x d p)
   unfolding constant_read
@@ -161,7 +160,7 @@ module _ (x : Setting) where
   answers_body : (m : WrittenMacro) (f : Core) (p : Progress) → Answers x.steps p (body_then x.world m f p)
   answers_body m f p =
       let formals = macro_formals m.formals in
-      answers_unless x.steps (option_map Thread (macro_fault x.world formals f)) (Grants (Macro (macros.number m.name) formals f ∷ [])) p (advanced_same x.steps p)
+      answers_unless x.steps (option_map Thread (macro_fault x.world formals f)) (Grants (Macro (symbol_or_nil m.name) formals f ∷ [])) p (advanced_same x.steps p)
 
   answers_macro_then : (m : WrittenMacro) (p : Progress) → Answers x.steps p (macro_then x m p)
   answers_macro_then m p =
@@ -200,13 +199,13 @@ answers_functions x head d p =
 
 -- ---- all events
 
-answers_obligations : (limit : ℕ) (s : Standing) (d : AbstractDescriptor) (p : Progress) → Answers limit p (abstract_admitted s d p)
+answers_obligations : (limit : ℕ) (s : Environment) (d : AbstractDescriptor) (p : Progress) → Answers limit p (abstract_admitted s d p)
 answers_obligations limit s d p =
     let os = obligations s.world p.symbols d in
     answers_unless limit (too_large os)
-    (Grants (record { standing = defining s (abstracts.abstract_entries s.world d); created = Some d.name; said = Obliged d.name os })) p (advanced_same limit p)
+    (Grants (record { environment = defining s (abstracts.abstract_entries s.world d); created = Some d.name; said = Obliged d.name os })) p (advanced_same limit p)
 
-pub answers_admitted : (s : Standing) (k : Limits) (head : ℕ) (d : Object ℕ) (p : Progress) → Answers k.steps p (admitted s k head d p)
+pub answers_admitted : (s : Environment) (k : Limits) (head : ℕ) (d : Object ℕ) (p : Progress) → Answers k.steps p (admitted s k head d p)
 unfolding admitted
 answers_admitted s k head d p =
     let x = setting s k in

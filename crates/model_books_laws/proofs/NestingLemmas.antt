@@ -1,6 +1,6 @@
 -- Objects that nest in each other, computed.
 use Rattle.std.specs.Prelude.{refl}
-use Rattle.model_stobjs.specs.Objects.{nesting_within, shape_of}
+use Rattle.model_stobjs.specs.Descriptors.{nesting_within, shape_of}
 use Rattle.model_books_laws.specs.Nesting.{NestingIsLimited, ladder}
 
 pub nesting_is_limited : NestingIsLimited

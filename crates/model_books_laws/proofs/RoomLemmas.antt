@@ -1,4 +1,4 @@
--- Whether there is room for the names of an object.
+-- Whether there is room for the names of a stobj.
 use Rattle.std.proofs.Common.{◌≡◌, ℕ, ◌<◌, ◌≤◌, length, List, [], ◌∷◌, ◌++◌, Bool, true, false, nat_lt, Option, Some, None, refl, sym, ap, ◌∙◌, subst, arith}
 use Rattle.std.specs.Prelude.{nat_le, not, ◌&&◌, ◌≢◌, ◌↔◌, is_some, option_map, cond, if◌then◌else◌}
 use Rattle.std.specs.Option.{option_or}
@@ -14,8 +14,9 @@ use Rattle.model_expansion.specs.Faults.{Refusal, NameInUse, CongruenceMismatch,
 use Rattle.model_expansion.specs.Expansion.{Progress}
 use Rattle.model_stobjs.specs.Answers.{EventResult, Grants, Refuses, unless}
 use Rattle.model_stobjs.specs.Heads.{name_in_use, is_in_use}
-use Rattle.model_stobjs.specs.Objects.{Making, MadeNames, ShapedField, WrittenObject, symbol_beside, new_name, name_made, names_made, room_for, names_then, with_number, named_descriptor, descriptor_with, new_names, mismatch, object_makings, symbol_or_nil}
+use Rattle.model_stobjs.specs.Descriptors.{Making, MadeNames, ShapedField, WrittenStobj, symbol_beside, new_name, name_made, names_made, room_for, names_then, with_number, named_descriptor, descriptor_with, new_names, mismatch, stobj_makings}
 use Rattle.model_books_laws.specs.Refusals.{AreKnown, symbols_named, symbols_with, SymbolLimitIsExact}
+use Rattle.model_expansion.specs.Forms.{symbol_or_nil}
 
 -- ---- tests of numbers
 
@@ -66,7 +67,7 @@ all_of : {X : Type 0} (P Q : X → Type 0) → ((x : X) → P x → Q x) → (xs
 all_of P Q f [] h = tt
 all_of P Q f (x ∷ xs) h = (f x h.0, all_of P Q f xs h.1)
 
--- ---- the names of an object
+-- ---- the names of a stobj
 
 -- there was room for all of these symbols, and then they are known
 record HasNames (m : MadeNames) (all : List QualifiedName) : Type 0 where
@@ -167,13 +168,13 @@ descriptor_is_other : (w : World) (d : Descriptor) (q after : Progress) → name
 descriptor_is_other w d q after =
     granted_or_other (option_or (name_in_use w (new_names d)) (mismatch w d)) d q after (either_is_other (name_in_use w (new_names d)) (mismatch w d) (in_use_is_other w (new_names d)) (mismatch_is_other _))
 
-object_when : (w : World) (packages : List Package) (o : WrittenObject) (fields : List ShapedField) (p : Progress)
+object_when : (w : World) (packages : List Package) (o : WrittenStobj) (fields : List ShapedField) (p : Progress)
     → ((after : Progress) × (names_then w packages o fields p ≡ Refuses SymbolLimit after))
-    ↔ (room_for (names_made packages o.renaming (object_makings p.symbols (symbol_or_nil o.name) fields) p.symbols) ≡ Some SymbolLimit)
+    ↔ (room_for (names_made packages o.renaming (stobj_makings p.symbols (symbol_or_nil o.name) fields) p.symbols) ≡ Some SymbolLimit)
 object_when w packages o fields p = (λ s. there m.have_room s.0 s.1, λ e. (record p { symbols = m.symbols }, ap (λ r. unless r (named_descriptor w (descriptor_with o fields m.numbers)) (record p { symbols = m.symbols })) e))
   where
     m : MadeNames
-    m = names_made packages o.renaming (object_makings p.symbols (symbol_or_nil o.name) fields) p.symbols
+    m = names_made packages o.renaming (stobj_makings p.symbols (symbol_or_nil o.name) fields) p.symbols
 
     there : (b : Bool) (after : Progress)
         → unless (if b then None else Some SymbolLimit) (named_descriptor w (descriptor_with o fields m.numbers)) (record p { symbols = m.symbols }) ≡ Refuses SymbolLimit after
@@ -189,8 +190,8 @@ pub symbol_limit_is_exact : SymbolLimitIsExact
 symbol_limit_is_exact = record {
   refused = λ packages renaming symbols makings l k. limit_when _ _ (names_found packages renaming symbols makings l k);
   made = λ packages renaming symbols makings l k e. (names_found packages renaming symbols makings l k).known (room_when (names_made packages renaming makings symbols) e);
-  object = λ w packages o fields p l k.
+  stobj = λ w packages o fields p l k.
       let first = object_when w packages o fields p in
-      let second = limit_when _ _ (names_found packages o.renaming p.symbols (object_makings p.symbols (symbol_or_nil o.name) fields) l k) in
+      let second = limit_when _ _ (names_found packages o.renaming p.symbols (stobj_makings p.symbols (symbol_or_nil o.name) fields) l k) in
       (λ s. second.0 (first.0 s), λ n. first.1 (second.1 n));
 }

@@ -6,7 +6,7 @@ use Rattle.model_symbols.specs.Opening.{acl2}
 use Rattle.model_text.specs.Next.{Next, Stands, Nothing, End, Faulty, next_at}
 use Rattle.model_terms.specs.Cores.{Core, Var, Const, StobjLet, cores}
 use Rattle.model_terms.specs.Worlds.{Out, Ordinary, Stobj, Definition, Generated, GeneratedFunction, definition}
-use Rattle.model_terms.specs.Children.{Holds, One, Many, ChildAccessor, child_accessor}
+use Rattle.model_terms.specs.Accessors.{HeldStobjs, One, Many, ChildAccessor, child_accessor}
 use Rattle.model_eval.specs.Outcomes.{Guard, Outcome, Gives, Stops, Unknown}
 use Rattle.model_eval.specs.Checked.{checked, begun, live}
 use Rattle.model_expansion.specs.TypeTerms.{call_core, false_core}
@@ -18,7 +18,7 @@ use Rattle.model_books.specs.Lines.{Bytes}
 use Rattle.model_books.specs.Output.{lines, numbered}
 use Rattle.model_books_laws.specs.TypeTests.{truth_given}
 
--- a function that an object comes with, its ordinary arguments, and whether it may be called on them
+-- a function that a stobj comes with, its ordinary arguments, and whether it may be called on them
 pub record Question : Type 0 where
   pub function : List ℕ
   pub arguments : List (Object QualifiedName)
@@ -39,7 +39,7 @@ session_then s go (Faulty c offset) = s
 unfoldable pub session_after : ℕ → ℕ → Bytes → Session → Session
 session_after zero offset bytes s = s
 session_after (suc n) offset bytes s =
-    session_then s (λ end. session_after n end (drop (end - offset) bytes)) (next_at s.standing.packages s.standing.current s.symbols offset bytes true)
+    session_then s (λ end. session_after n end (drop (end - offset) bytes)) (next_at s.environment.packages s.environment.current s.symbols offset bytes true)
 
 -- after these lines, a command each
 abbrev pub session_of : List Bytes → Session
@@ -47,7 +47,7 @@ session_of commands = session_after (length commands) 0 (lines commands) opening
 
 -- ---- calls
 
--- the arguments in the order of the formals; an object is the live one of that name
+-- the arguments in the order of the formals; a stobj is the live one of that name
 abbrev pub actuals_for : List Out → List (Object ℕ) → List Core
 actuals_for [] os = []
 actuals_for (Ordinary ∷ ins) [] = []
@@ -58,7 +58,7 @@ abbrev pub generated_in : Definition → Option GeneratedFunction
 generated_in (Generated g) = Some g
 generated_in d = None
 
-abbrev pub held : Holds → ℕ
+abbrev pub held : HeldStobjs → ℕ
 held (One x) = x
 held (Many x) = x
 
@@ -76,20 +76,20 @@ passed f Unknown = None
 
 module _ (s : Session) where
   abbrev pub evaluated_in : Core → Outcome ℕ
-  evaluated_in f = checked s.standing.world s.standing.packages limits.steps limits.depth f (live s.stobjs) (begun s.symbols s.stobjs 0)
+  evaluated_in f = checked s.environment.world s.environment.packages limits.steps limits.depth f (live s.stobjs) (begun s.symbols s.stobjs 0)
 
   -- the function of this name in the package `ACL2`
   abbrev pub function_named : List ℕ → Option GeneratedFunction
-  function_named name = option_and_then generated_in (option_and_then (definition s.standing.world) (number_of s.symbols (record { home = acl2; name = name })))
+  function_named name = option_and_then generated_in (option_and_then (definition s.environment.world) (number_of s.symbols (record { home = acl2; name = name })))
 
   abbrev pub actuals_of : GeneratedFunction → Question → List Core
   actuals_of g q = actuals_for g.signature.ins (map (numbered s.symbols) q.arguments)
 
   abbrev pub guard_of : GeneratedFunction → List Core → Option Bool
-  guard_of g actuals = truth_given (evaluated_in (generated_guard s.standing.world g actuals))
+  guard_of g actuals = truth_given (evaluated_in (generated_guard s.environment.world g actuals))
 
   abbrev pub effect_of : GeneratedFunction → List Core → Option Bool
-  effect_of g actuals = passed g.name (evaluated_in (calling (child_accessor s.standing.world g.name) (call_core g.name actuals)))
+  effect_of g actuals = passed g.name (evaluated_in (calling (child_accessor s.environment.world g.name) (call_core g.name actuals)))
 
   -- whether the guard holds
   abbrev pub by_guard : Question → Option Bool

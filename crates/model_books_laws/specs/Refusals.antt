@@ -8,7 +8,8 @@ use Rattle.model_expansion.specs.Faults.{Refusal, SymbolLimit, TooLarge}
 use Rattle.model_expansion.specs.Expansion.{Progress}
 use Rattle.model_stobjs.specs.Answers.{Refuses}
 use Rattle.model_stobjs.specs.Obligations.{Obligation, too_large, obligation_form}
-use Rattle.model_stobjs.specs.Objects.{Making, ShapedField, WrittenObject, symbol_beside, new_name, names_made, room_for, names_then, object_makings, symbol_or_nil}
+use Rattle.model_stobjs.specs.Descriptors.{Making, ShapedField, WrittenStobj, symbol_beside, new_name, names_made, room_for, names_then, stobj_makings}
+use Rattle.model_expansion.specs.Forms.{symbol_or_nil}
 
 -- ---- obligations that are too heavy
 
@@ -59,8 +60,8 @@ pub record SymbolLimitIsExact : Type 0 where
       → length symbols ≤ most_symbols → AreKnown symbols renaming makings
       → room_for (names_made packages renaming makings symbols) ≡ None
       → (names_made packages renaming makings symbols).symbols ≡ symbols_with packages renaming symbols makings
-  -- the same of the definition of an object, once its fields have shapes
-  pub object : (w : World) (packages : List Package) (o : WrittenObject) (fields : List ShapedField) (p : Progress)
-      → length p.symbols ≤ most_symbols → AreKnown p.symbols o.renaming (object_makings p.symbols (symbol_or_nil o.name) fields)
+  -- the same of the definition of a stobj, once its fields have shapes
+  pub stobj : (w : World) (packages : List Package) (o : WrittenStobj) (fields : List ShapedField) (p : Progress)
+      → length p.symbols ≤ most_symbols → AreKnown p.symbols o.renaming (stobj_makings p.symbols (symbol_or_nil o.name) fields)
       → ((after : Progress) × (names_then w packages o fields p ≡ Refuses SymbolLimit after))
-      ↔ (most_symbols < length (symbols_with packages o.renaming p.symbols (object_makings p.symbols (symbol_or_nil o.name) fields)))
+      ↔ (most_symbols < length (symbols_with packages o.renaming p.symbols (stobj_makings p.symbols (symbol_or_nil o.name) fields)))

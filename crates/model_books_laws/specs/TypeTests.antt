@@ -4,7 +4,7 @@ use Rattle.std.specs.Option.{option_and_then}
 use Rattle.model_prims.specs.Kinds.{by_number, is_nil}
 use Rattle.model_terms.specs.Cores.{Core, Const}
 use Rattle.model_eval.specs.Outcomes.{Outcome, Gives, Stops, Unknown}
-use Rattle.model_eval.specs.Scopes.{object_of, single}
+use Rattle.model_eval.specs.Variables.{object_of, single}
 use Rattle.model_eval.specs.Checked.{checked, begun}
 use Rattle.model_eval_rows.specs.Types.{TypeRow}
 use Rattle.model_expansion.specs.TypeTerms.{type_term}

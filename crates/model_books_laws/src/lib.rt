@@ -22,7 +22,7 @@ pub fn generated_books()
     ensures { BooksAreGenerated }
 {}
 
-/// The test of each type, evaluated at an object, is `NIL` exactly where the object does not meet the type.
+/// The test of each type, evaluated at a stobj, is `NIL` exactly where the stobj does not meet the type.
 #[tactic(auto, using(crate::proofs::Computed::type_tests))]
 pub fn type_tests()
     ensures { TestsAreRight type_rows }
@@ -40,19 +40,19 @@ pub fn nesting_is_limited()
     ensures { NestingIsLimited }
 {}
 
-/// The guard of a function that an object comes with, evaluated, is `NIL` exactly where a call of the function is stopped by it.
+/// The guard of a function that a stobj comes with, evaluated, is `NIL` exactly where a call of the function is stopped by it.
 #[tactic(auto, using(crate::proofs::GuardsComputed::guards_agree))]
 pub fn guards_agree_with_effects()
     ensures { GuardsAgreeWithEffects }
 {}
 
-/// An abstract object is refused for its first obligation that is too heavy, and for no other.
+/// An abstract stobj is refused for its first obligation that is too heavy, and for no other.
 #[tactic(auto, using(crate::proofs::WeightLemmas::too_large_is_the_first))]
 pub fn too_large_is_the_first()
     ensures { TooLargeIsTheFirst }
 {}
 
-/// A definition of an object is refused at the limit of symbols exactly where its names would be too many.
+/// A definition of a stobj is refused at the limit of symbols exactly where its names would be too many.
 #[tactic(auto, using(crate::proofs::RoomLemmas::symbol_limit_is_exact))]
 pub fn symbol_limit_is_exact()
     ensures { SymbolLimitIsExact }

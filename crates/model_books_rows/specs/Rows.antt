@@ -53,36 +53,6 @@ cells_given_back_written = lines (codes "ST" ∷ codes "<st>" ∷ codes "3" ∷ 
 pub record CellsGivenBack : Type 0 where
   pub is_written : output ([]) cells_given_back_input ≡ record { bytes = cells_given_back_written; status = Done }
 
--- child at a stop
-abbrev pub child_at_a_stop_input : List ℕ
-child_at_a_stop_input = lines (codes "(defstobj kid (val :type integer :initially 0))" ∷ codes "(defstobj kid2 (val2 :type integer :initially 0) :congruent-to kid)" ∷ codes "(defstobj par (k :type (array kid (3))))" ∷ codes "(defun half (par) (declare (xargs :stobjs par)) (stobj-let ((kid (ki 0 par))) (kid) (let ((kid (update-val 4 kid))) (update-val 'x kid)) par))" ∷ codes "(half par)" ∷ codes "(:show par)" ∷ [])
-
-abbrev pub child_at_a_stop_written : List ℕ
-child_at_a_stop_written = lines (codes "KID" ∷ codes "KID2" ∷ codes "PAR" ∷ codes "HALF" ∷ codes "Guard violation: (UPDATE-VAL X <kid>)" ∷ codes "(((4) (0) (0)))" ∷ codes "; 6 commands, 4 calls, 1 errors" ∷ [])
-
-pub record ChildAtAStop : Type 0 where
-  pub is_written : output ([]) child_at_a_stop_input ≡ record { bytes = child_at_a_stop_written; status = Errors }
-
--- child bound twice
-abbrev pub child_bound_twice_input : List ℕ
-child_bound_twice_input = lines (codes "(defstobj kid (val :type integer :initially 0))" ∷ codes "(defstobj kid2 (val2 :type integer :initially 0) :congruent-to kid)" ∷ codes "(defstobj par (k :type (array kid (3))))" ∷ codes "(defun two (i j par) (declare (xargs :stobjs par :guard (and (natp i) (< i 3) (natp j) (< j 3)))) (stobj-let ((kid (ki i par)) (kid2 (ki j par))) (kid kid2) (let ((kid (update-val 1 kid))) (let ((kid2 (update-val 2 kid2))) (mv kid kid2))) par))" ∷ codes "(two 0 1 par)" ∷ codes "(two 2 2 par)" ∷ codes "(:show par)" ∷ codes "(defun bad (par) (declare (xargs :stobjs par)) (stobj-let ((kid (ki 1 par)) (kid2 (ki 1 par))) (kid) kid par))" ∷ codes "(defun peek (i par) (declare (xargs :stobjs par :guard (and (natp i) (< i 3)))) (stobj-let ((kid (ki i par))) (v) (val kid) v))" ∷ codes "(peek 1 par)" ∷ [])
-
-abbrev pub child_bound_twice_written : List ℕ
-child_bound_twice_written = lines (codes "KID" ∷ codes "KID2" ∷ codes "PAR" ∷ codes "TWO" ∷ codes "<par>" ∷ codes "Guard violation: (STOBJ-LET 2 2)" ∷ codes "(((1) (2) (0)))" ∷ codes "Refused: S13 at (0 1)" ∷ codes "PEEK" ∷ codes "2" ∷ codes "; 10 commands, 25 calls, 2 errors" ∷ [])
-
-pub record ChildBoundTwice : Type 0 where
-  pub is_written : output ([]) child_bound_twice_input ≡ record { bytes = child_bound_twice_written; status = Errors }
-
--- children of one array
-abbrev pub children_of_one_array_input : List ℕ
-children_of_one_array_input = lines (codes "(defstobj kid (val :type integer :initially 0))" ∷ codes "(defstobj kid2 (val2 :type integer :initially 0) :congruent-to kid)" ∷ codes "(defstobj par (k :type (array kid (3))))" ∷ codes "(defun two (i j par) (declare (xargs :stobjs par :guard (and (natp i) (< i 3) (natp j) (< j 3)))) (stobj-let ((kid (ki i par)) (kid2 (ki j par))) (kid kid2) (let ((kid (update-val 1 kid))) (let ((kid2 (update-val 2 kid2))) (mv kid kid2))) par))" ∷ codes "(two 0 1 par)" ∷ codes "(two 2 2 par)" ∷ codes "(:show par)" ∷ [])
-
-abbrev pub children_of_one_array_written : List ℕ
-children_of_one_array_written = lines (codes "KID" ∷ codes "KID2" ∷ codes "PAR" ∷ codes "TWO" ∷ codes "<par>" ∷ codes "Guard violation: (STOBJ-LET 2 2)" ∷ codes "(((1) (2) (0)))" ∷ codes "; 7 commands, 19 calls, 1 errors" ∷ [])
-
-pub record ChildrenOfOneArray : Type 0 where
-  pub is_written : output ([]) children_of_one_array_input ≡ record { bytes = children_of_one_array_written; status = Errors }
-
 -- comma outside
 abbrev pub comma_outside_input : List ℕ
 comma_outside_input = codes ",a"
@@ -92,26 +62,6 @@ comma_outside_written = lines (codes "Text fault: CommaOutside at 0" ∷ codes "
 
 pub record CommaOutside : Type 0 where
   pub is_written : output ([]) comma_outside_input ≡ record { bytes = comma_outside_written; status = Text }
-
--- congruent objects
-abbrev pub congruent_objects_input : List ℕ
-congruent_objects_input = lines (codes "(defstobj st (a :type integer :initially 1))" ∷ codes "(defstobj st2 (b :type integer :initially 1) :congruent-to st)" ∷ codes "(update-a 5 st2)" ∷ codes "(defun both (st st2) (declare (xargs :stobjs (st st2))) (let ((st (update-a 7 st))) (let ((st2 (update-b 8 st2))) (mv st st2))))" ∷ codes "(both st2 st)" ∷ codes "(:show st)" ∷ codes "(:show st2)" ∷ [])
-
-abbrev pub congruent_objects_written : List ℕ
-congruent_objects_written = lines (codes "ST" ∷ codes "ST2" ∷ codes "<st2>" ∷ codes "BOTH" ∷ codes "(<st2> <st>)" ∷ codes "(8)" ∷ codes "(7)" ∷ codes "; 7 commands, 4 calls, 0 errors" ∷ [])
-
-pub record CongruentObjects : Type 0 where
-  pub is_written : output ([]) congruent_objects_input ≡ record { bytes = congruent_objects_written; status = Done }
-
--- congruent parents
-abbrev pub congruent_parents_input : List ℕ
-congruent_parents_input = lines (codes "(defstobj kid (val :type integer :initially 0))" ∷ codes "(defstobj kid2 (val2 :type integer :initially 0) :congruent-to kid)" ∷ codes "(defstobj par (k :type (array kid (3))))" ∷ codes "(defstobj par2 (k2 :type (array kid (3))) :congruent-to par)" ∷ codes "(defun twin (par) (declare (xargs :stobjs par)) (stobj-let ((kid (ki 0 par)) (kid2 (k2i 0 par))) (kid) kid par))" ∷ [])
-
-abbrev pub congruent_parents_written : List ℕ
-congruent_parents_written = lines (codes "KID" ∷ codes "KID2" ∷ codes "PAR" ∷ codes "PAR2" ∷ codes "Refused: S13 at (0 1)" ∷ codes "; 5 commands, 0 calls, 1 errors" ∷ [])
-
-pub record CongruentParents : Type 0 where
-  pub is_written : output ([]) congruent_parents_input ≡ record { bytes = congruent_parents_written; status = Errors }
 
 -- empty input
 abbrev pub empty_input_input : List ℕ
@@ -153,16 +103,6 @@ guard_violation_written = lines (codes "ST" ∷ codes "<st>" ∷ codes "5" ∷ c
 pub record GuardViolation : Type 0 where
   pub is_written : output ([]) guard_violation_input ≡ record { bytes = guard_violation_written; status = Errors }
 
--- hash field
-abbrev pub hash_field_input : List ℕ
-hash_field_input = lines (codes "(defstobj st (h :type (hash-table eql)))" ∷ codes "(h-put 'k 1 st)" ∷ codes "(h-put 'k 2 st)" ∷ codes "(h-get 'k st)" ∷ codes "(h-rem 'k st)" ∷ codes "(h-get 'k st)" ∷ codes "(h-count st)" ∷ [])
-
-abbrev pub hash_field_written : List ℕ
-hash_field_written = lines (codes "ST" ∷ codes "<st>" ∷ codes "<st>" ∷ codes "2" ∷ codes "<st>" ∷ codes "NIL" ∷ codes "0" ∷ codes "; 7 commands, 6 calls, 0 errors" ∷ [])
-
-pub record HashField : Type 0 where
-  pub is_written : output ([]) hash_field_input ≡ record { bytes = hash_field_written; status = Done }
-
 -- held cells
 abbrev pub held_cells_input : List ℕ
 held_cells_input = lines (codes "(defstobj st (x))" ∷ codes "(update-x \"abcdefghi\" st)" ∷ codes "(:cells)" ∷ codes "(update-x '(9223372036854775808 . 9223372036854775807) st)" ∷ codes "(:cells)" ∷ [])
@@ -203,16 +143,6 @@ in_package_written = lines (codes "Refused: UnknownPackage \"Q\"" ∷ codes "\"K
 pub record InPackage : Type 0 where
   pub is_written : output ([]) in_package_input ≡ record { bytes = in_package_written; status = Errors }
 
--- list at a stop
-abbrev pub list_at_a_stop_input : List ℕ
-list_at_a_stop_input = lines (codes "(defstobj st (a :type integer :initially 0) (b :type integer :initially 0))" ∷ codes "(defun w (st) (declare (xargs :stobjs st)) (let ((st (update-a 1 st))) (update-b 'x st)))" ∷ codes "(w st)" ∷ codes "(a st)" ∷ [])
-
-abbrev pub list_at_a_stop_written : List ℕ
-list_at_a_stop_written = lines (codes "ST" ∷ codes "W" ∷ codes "Guard violation: (UPDATE-B X <st>)" ∷ codes "1" ∷ codes "; 4 commands, 4 calls, 1 errors" ∷ [])
-
-pub record ListAtAStop : Type 0 where
-  pub is_written : output ([]) list_at_a_stop_input ≡ record { bytes = list_at_a_stop_written; status = Errors }
-
 -- literal too wide
 abbrev pub literal_too_wide_input : List ℕ
 literal_too_wide_input = lines (codes "170141183460469231731687303715884105728" ∷ [])
@@ -222,16 +152,6 @@ literal_too_wide_written = lines (codes "Text fault: IntegerTooWide at 0" ∷ co
 
 pub record LiteralTooWide : Type 0 where
   pub is_written : output ([]) literal_too_wide_input ≡ record { bytes = literal_too_wide_written; status = Text }
-
--- local object
-abbrev pub local_object_input : List ℕ
-local_object_input = lines (codes "(defstobj st (pc :type integer :initially 0))" ∷ codes "(defun f (n) (declare (xargs :guard (integerp n))) (with-local-stobj st (mv-let (x st) (let ((st (update-pc n st))) (mv (pc st) st)) x)))" ∷ codes "(f 9)" ∷ codes "(pc st)" ∷ [])
-
-abbrev pub local_object_written : List ℕ
-local_object_written = lines (codes "ST" ∷ codes "F" ∷ codes "9" ∷ codes "0" ∷ codes "; 4 commands, 6 calls, 0 errors" ∷ [])
-
-pub record LocalObject : Type 0 where
-  pub is_written : output ([]) local_object_input ≡ record { bytes = local_object_written; status = Done }
 
 -- narrowest literal
 abbrev pub narrowest_literal_input : List ℕ
@@ -262,16 +182,6 @@ nesting_limit_alone_written = lines (codes "SPIN" ∷ codes "Nesting limit" ∷ 
 
 pub record NestingLimitAlone : Type 0 where
   pub is_written : output (codes "--depth" ∷ codes "100" ∷ []) nesting_limit_alone_input ≡ record { bytes = nesting_limit_alone_written; status = Errors }
-
--- object bound beside a value
-abbrev pub object_bound_beside_a_value_input : List ℕ
-object_bound_beside_a_value_input = lines (codes "(defstobj st (pc :type integer :initially 0))" ∷ codes "(update-pc 5 st)" ∷ codes "(pc st)" ∷ codes "(let ((x (pc st)) (st (update-pc 1 st))) (mv x st))" ∷ [])
-
-abbrev pub object_bound_beside_a_value_written : List ℕ
-object_bound_beside_a_value_written = lines (codes "ST" ∷ codes "<st>" ∷ codes "5" ∷ codes "Refused: S4 at ()" ∷ codes "; 4 commands, 2 calls, 1 errors" ∷ [])
-
-pub record ObjectBoundBesideAValue : Type 0 where
-  pub is_written : output ([]) object_bound_beside_a_value_input ≡ record { bytes = object_bound_beside_a_value_written; status = Errors }
 
 -- one step short
 abbrev pub one_step_short_input : List ℕ
@@ -333,16 +243,6 @@ refusals_written = lines (codes "ST" ∷ codes "ST2" ∷ codes "<st2>" ∷ codes
 pub record Refusals : Type 0 where
   pub is_written : output ([]) refusals_input ≡ record { bytes = refusals_written; status = Errors }
 
--- resizing
-abbrev pub resizing_input : List ℕ
-resizing_input = lines (codes "(defstobj st (a :type (array (unsigned-byte 8) (0)) :initially 7 :resizable t))" ∷ codes "(resize-a 3 st)" ∷ codes "(update-ai 2 9 st)" ∷ codes "(resize-a 1 st)" ∷ codes "(resize-a 3 st)" ∷ codes "(ai 2 st)" ∷ [])
-
-abbrev pub resizing_written : List ℕ
-resizing_written = lines (codes "ST" ∷ codes "<st>" ∷ codes "<st>" ∷ codes "<st>" ∷ codes "<st>" ∷ codes "7" ∷ codes "; 6 commands, 5 calls, 0 errors" ∷ [])
-
-pub record Resizing : Type 0 where
-  pub is_written : output ([]) resizing_input ≡ record { bytes = resizing_written; status = Done }
-
 -- stack machine
 abbrev pub stack_machine_input : List ℕ
 stack_machine_input = lines (codes "; A small stack machine." ∷ codes "(in-package \"ACL2\")" ∷ codes "(defpkg \"SM\" (union-eq *acl2-exports* *common-lisp-symbols-from-main-lisp-package*))" ∷ codes "(in-package \"SM\")" ∷ codes "(defconst *mem-size* 16)" ∷ codes "(defstobj sm" ∷ codes "  (pc :type (integer 0 1000) :initially 0)" ∷ codes "  (stk :type t :initially nil)" ∷ codes "  (mem :type (array (signed-byte 32) (*mem-size*)) :initially 0)" ∷ codes "  (names :type (hash-table eq))" ∷ codes "  (code :type t :initially nil)" ∷ codes "  :inline t)" ∷ codes "(defmacro op (i) `(car ,i))" ∷ codes "(defmacro arg (i) `(cadr ,i))" ∷ codes "(defun push-val (v sm)" ∷ codes "  (declare (xargs :stobjs sm))" ∷ codes "  (update-stk (cons v (stk sm)) sm))" ∷ codes "(defun pop-val (sm)" ∷ codes "  (declare (xargs :stobjs sm :guard (consp (stk sm))))" ∷ codes "  (let* ((v (car (stk sm))) (sm (update-stk (cdr (stk sm)) sm)))" ∷ codes "    (mv v sm)))" ∷ codes "(defun addr (x sm)" ∷ codes "  (declare (xargs :stobjs sm :guard (symbolp x)))" ∷ codes "  (names-get x sm))" ∷ codes "(defun step1 (ins sm)" ∷ codes "  (declare (xargs :stobjs sm :guard (and (true-listp ins) (consp ins))))" ∷ codes "  (case (op ins)" ∷ codes "    (push (push-val (arg ins) sm))" ∷ codes "    (load (push-val (memi (addr (arg ins) sm) sm) sm))" ∷ codes "    (store (mv-let (v sm) (pop-val sm)" ∷ codes "             (update-memi (addr (arg ins) sm) v sm)))" ∷ codes "    (add (mv-let (a sm) (pop-val sm)" ∷ codes "           (mv-let (b sm) (pop-val sm)" ∷ codes "             (push-val (+ a b) sm))))" ∷ codes "    (otherwise sm)))" ∷ codes "(defun run-code (code sm)" ∷ codes "  (declare (xargs :stobjs sm :guard (true-listp code) :measure (len code)))" ∷ codes "  (if (endp code) sm" ∷ codes "    (let ((sm (step1 (car code) sm)))" ∷ codes "      (run-code (cdr code) sm))))" ∷ codes "(defthm run-code-sm (implies (smp sm) (smp (run-code code sm))))" ∷ codes "(names-put 'x 3 sm)" ∷ codes "(names-put 'y 4 sm)" ∷ codes "(run-code '((push 20) (push 22) (add) (store x)) sm)" ∷ codes "(memi 3 sm)" ∷ codes "(run-code '((load x) (load x) (add) (store y)) sm)" ∷ codes "(memi 4 sm)" ∷ codes "(stk sm)" ∷ codes "(run-code '((push 1) (add)) sm)" ∷ codes "(stk sm)" ∷ codes "(names-count sm)" ∷ codes "(:show sm)" ∷ codes "(mv (stk sm) (pc sm))" ∷ [])
@@ -362,6 +262,16 @@ steps_exactly_written = lines (codes "ST" ∷ codes "UP" ∷ codes "<st>" ∷ co
 
 pub record StepsExactly : Type 0 where
   pub is_written : output (codes "--steps" ∷ codes "31" ∷ []) steps_exactly_input ≡ record { bytes = steps_exactly_written; status = Done }
+
+-- stobj bound beside a value
+abbrev pub stobj_bound_beside_a_value_input : List ℕ
+stobj_bound_beside_a_value_input = lines (codes "(defstobj st (pc :type integer :initially 0))" ∷ codes "(update-pc 5 st)" ∷ codes "(pc st)" ∷ codes "(let ((x (pc st)) (st (update-pc 1 st))) (mv x st))" ∷ [])
+
+abbrev pub stobj_bound_beside_a_value_written : List ℕ
+stobj_bound_beside_a_value_written = lines (codes "ST" ∷ codes "<st>" ∷ codes "5" ∷ codes "Refused: S4 at ()" ∷ codes "; 4 commands, 2 calls, 1 errors" ∷ [])
+
+pub record StobjBoundBesideAValue : Type 0 where
+  pub is_written : output ([]) stobj_bound_beside_a_value_input ≡ record { bytes = stobj_bound_beside_a_value_written; status = Errors }
 
 -- stopped between updates
 abbrev pub stopped_between_updates_input : List ℕ
@@ -433,15 +343,15 @@ user_macro_written = lines (codes "SQ" ∷ codes "25" ∷ codes "; 2 commands, 6
 pub record UserMacro : Type 0 where
   pub is_written : output ([]) user_macro_input ≡ record { bytes = user_macro_written; status = Done }
 
--- value and object
-abbrev pub value_and_object_input : List ℕ
-value_and_object_input = lines (codes "(defstobj st (pc :type integer :initially 0))" ∷ codes "(update-pc 5 st)" ∷ codes "(pc st)" ∷ codes "(mv (pc st) st)" ∷ [])
+-- value and stobj
+abbrev pub value_and_stobj_input : List ℕ
+value_and_stobj_input = lines (codes "(defstobj st (pc :type integer :initially 0))" ∷ codes "(update-pc 5 st)" ∷ codes "(pc st)" ∷ codes "(mv (pc st) st)" ∷ [])
 
-abbrev pub value_and_object_written : List ℕ
-value_and_object_written = lines (codes "ST" ∷ codes "<st>" ∷ codes "5" ∷ codes "(5 <st>)" ∷ codes "; 4 commands, 3 calls, 0 errors" ∷ [])
+abbrev pub value_and_stobj_written : List ℕ
+value_and_stobj_written = lines (codes "ST" ∷ codes "<st>" ∷ codes "5" ∷ codes "(5 <st>)" ∷ codes "; 4 commands, 3 calls, 0 errors" ∷ [])
 
-pub record ValueAndObject : Type 0 where
-  pub is_written : output ([]) value_and_object_input ≡ record { bytes = value_and_object_written; status = Done }
+pub record ValueAndStobj : Type 0 where
+  pub is_written : output ([]) value_and_stobj_input ≡ record { bytes = value_and_stobj_written; status = Done }
 
 -- weight limit
 abbrev pub weight_limit_input : List ℕ

@@ -2,7 +2,7 @@
 //! tools/rows.py from the files in rows/.
 #![tactic(auto)]
 
-ghost use Rattle.model_books_rows.specs.Rows.{AbstractCaller, BadByte, BadDot, BadWords, CellsGivenBack, ChildAtAStop, ChildBoundTwice, ChildrenOfOneArray, CommaOutside, CongruentObjects, CongruentParents, EmptyInput, ExportUndone, FirstRules, GuardViolation, HashField, HeldCells, Hexadecimal, IdentityAbstraction, InPackage, ListAtAStop, LiteralTooWide, LocalObject, NarrowestLiteral, NestingLimit, NestingLimitAlone, ObjectBoundBesideAValue, OneStepShort, OpenString, PackageOfItsOwn, Primitives, Ratio, Refusals, Resizing, StackMachine, StepsExactly, StoppedBetweenUpdates, StrayClose, ThreeCommands, TooDeep, Unfinished, UnknownPackage, UserMacro, ValueAndObject, WeightLimit, WidestInteger};
+ghost use Rattle.model_books_rows.specs.Rows.{AbstractCaller, BadByte, BadDot, BadWords, CellsGivenBack, CommaOutside, EmptyInput, ExportUndone, FirstRules, GuardViolation, HeldCells, Hexadecimal, IdentityAbstraction, InPackage, LiteralTooWide, NarrowestLiteral, NestingLimit, NestingLimitAlone, OneStepShort, OpenString, PackageOfItsOwn, Primitives, Ratio, Refusals, StackMachine, StepsExactly, StobjBoundBesideAValue, StoppedBetweenUpdates, StrayClose, ThreeCommands, TooDeep, Unfinished, UnknownPackage, UserMacro, ValueAndStobj, WeightLimit, WidestInteger};
 
 /// The row `abstract_caller`.
 #[tactic(auto, using(crate::proofs::RowAbstractCaller::is_computed))]
@@ -34,40 +34,10 @@ pub fn cells_given_back()
     ensures { CellsGivenBack }
 {}
 
-/// The row `child_at_a_stop`.
-#[tactic(auto, using(crate::proofs::RowChildAtAStop::is_computed))]
-pub fn child_at_a_stop()
-    ensures { ChildAtAStop }
-{}
-
-/// The row `child_bound_twice`.
-#[tactic(auto, using(crate::proofs::RowChildBoundTwice::is_computed))]
-pub fn child_bound_twice()
-    ensures { ChildBoundTwice }
-{}
-
-/// The row `children_of_one_array`.
-#[tactic(auto, using(crate::proofs::RowChildrenOfOneArray::is_computed))]
-pub fn children_of_one_array()
-    ensures { ChildrenOfOneArray }
-{}
-
 /// The row `comma_outside`.
 #[tactic(auto, using(crate::proofs::RowCommaOutside::is_computed))]
 pub fn comma_outside()
     ensures { CommaOutside }
-{}
-
-/// The row `congruent_objects`.
-#[tactic(auto, using(crate::proofs::RowCongruentObjects::is_computed))]
-pub fn congruent_objects()
-    ensures { CongruentObjects }
-{}
-
-/// The row `congruent_parents`.
-#[tactic(auto, using(crate::proofs::RowCongruentParents::is_computed))]
-pub fn congruent_parents()
-    ensures { CongruentParents }
 {}
 
 /// The row `empty_input`.
@@ -94,12 +64,6 @@ pub fn guard_violation()
     ensures { GuardViolation }
 {}
 
-/// The row `hash_field`.
-#[tactic(auto, using(crate::proofs::RowHashField::is_computed))]
-pub fn hash_field()
-    ensures { HashField }
-{}
-
 /// The row `held_cells`.
 #[tactic(auto, using(crate::proofs::RowHeldCells::is_computed))]
 pub fn held_cells()
@@ -124,22 +88,10 @@ pub fn in_package()
     ensures { InPackage }
 {}
 
-/// The row `list_at_a_stop`.
-#[tactic(auto, using(crate::proofs::RowListAtAStop::is_computed))]
-pub fn list_at_a_stop()
-    ensures { ListAtAStop }
-{}
-
 /// The row `literal_too_wide`.
 #[tactic(auto, using(crate::proofs::RowLiteralTooWide::is_computed))]
 pub fn literal_too_wide()
     ensures { LiteralTooWide }
-{}
-
-/// The row `local_object`.
-#[tactic(auto, using(crate::proofs::RowLocalObject::is_computed))]
-pub fn local_object()
-    ensures { LocalObject }
 {}
 
 /// The row `narrowest_literal`.
@@ -158,12 +110,6 @@ pub fn nesting_limit()
 #[tactic(auto, using(crate::proofs::RowNestingLimitAlone::is_computed))]
 pub fn nesting_limit_alone()
     ensures { NestingLimitAlone }
-{}
-
-/// The row `object_bound_beside_a_value`.
-#[tactic(auto, using(crate::proofs::RowObjectBoundBesideAValue::is_computed))]
-pub fn object_bound_beside_a_value()
-    ensures { ObjectBoundBesideAValue }
 {}
 
 /// The row `one_step_short`.
@@ -202,12 +148,6 @@ pub fn refusals()
     ensures { Refusals }
 {}
 
-/// The row `resizing`.
-#[tactic(auto, using(crate::proofs::RowResizing::is_computed))]
-pub fn resizing()
-    ensures { Resizing }
-{}
-
 /// The row `stack_machine`.
 #[tactic(auto, using(crate::proofs::RowStackMachine::is_computed))]
 pub fn stack_machine()
@@ -218,6 +158,12 @@ pub fn stack_machine()
 #[tactic(auto, using(crate::proofs::RowStepsExactly::is_computed))]
 pub fn steps_exactly()
     ensures { StepsExactly }
+{}
+
+/// The row `stobj_bound_beside_a_value`.
+#[tactic(auto, using(crate::proofs::RowStobjBoundBesideAValue::is_computed))]
+pub fn stobj_bound_beside_a_value()
+    ensures { StobjBoundBesideAValue }
 {}
 
 /// The row `stopped_between_updates`.
@@ -262,10 +208,10 @@ pub fn user_macro()
     ensures { UserMacro }
 {}
 
-/// The row `value_and_object`.
-#[tactic(auto, using(crate::proofs::RowValueAndObject::is_computed))]
-pub fn value_and_object()
-    ensures { ValueAndObject }
+/// The row `value_and_stobj`.
+#[tactic(auto, using(crate::proofs::RowValueAndStobj::is_computed))]
+pub fn value_and_stobj()
+    ensures { ValueAndStobj }
 {}
 
 /// The row `weight_limit`.

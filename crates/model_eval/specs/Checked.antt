@@ -1,4 +1,4 @@
--- Checked evaluation: every guard, every bound and every limit, symbols by number.
+-- Checked evaluation: every guard, every bound and every limit, symbols by number (ACL2's manual, topics GUARD, EVALUATION).
 use Rattle.std.specs.Prelude.{ℕ, List, [], ◌∷◌, map, Some}
 use Rattle.model_symbols.specs.Symbols.{QualifiedName, Package}
 use Rattle.model_prims.specs.Kinds.{by_number}
@@ -6,11 +6,11 @@ use Rattle.model_prims.specs.Applied.{Applied, applied}
 use Rattle.model_prims.specs.Applied as prims
 use Rattle.model_prims.specs.declared.prim.Prim.{Prim}
 use Rattle.model_terms.specs.Worlds.{World, FunctionOfAbstract}
-use Rattle.model_eval.specs.Outcomes.{Shown, Plain, Stobj, Stobjs, Guard, Range, Large, Symbols, StateOf, State, OutcomeOf, Gives, Stops, Unknown, stops_here, inside_of, counting}
+use Rattle.model_eval.specs.Outcomes.{Shown, Plain, StobjNamed, Stobjs, Guard, Range, Large, Symbols, StateOf, State, OutcomeOf, Gives, Stops, Unknown, stops_here, inside_of, counting}
 use Rattle.model_eval.specs.Keeping.{Keeping, beginning, committing, abandoning}
 use Rattle.model_eval.specs.ListsKeeping.{lists_keeping}
-use Rattle.model_eval.specs.Scopes.{Variables, ordinary}
-use Rattle.model_eval.specs.Worlds.{new_list}
+use Rattle.model_eval.specs.Variables.{Variables, ordinary}
+use Rattle.model_eval.specs.StobjLayouts.{new_list}
 use Rattle.model_eval.specs.Evaluated.{RulesOf, Rules, Evaluator, evaluated}
 
 module _ {O : Type 0} where
@@ -28,7 +28,7 @@ module _ {O : Type 0} where
 
 module _ {S O B : Type 0} (keeping : Keeping S O B) where
   -- the outcome of what an export made, after so many outer calls, from its actuals and what its call left behind: no call there is
-  -- an outer one; and where it stopped, it stopped inside, and the object is as it was at the call
+  -- an outer one; and where it stopped, it stopped inside, and the stobj is as it was at the call
   abbrev pub inside_after : List (Shown S) → B → ℕ → ℕ → OutcomeOf S O → OutcomeOf S O
   inside_after actuals before export outer (Gives values after) = Gives values (committing keeping (record after { outer = outer }))
   inside_after actuals before export outer (Stops stop origin after) =
@@ -40,7 +40,7 @@ module _ {S O B : Type 0} (keeping : Keeping S O B) where
   checked_export limit f actuals before exec state =
       counting limit state (λ after. inside_after actuals before f.name state.outer (exec (beginning keeping after)))
 
--- the rules of checked evaluation with a limit of calls, where the objects are kept in this way
+-- the rules of checked evaluation with a limit of calls, where the stobjs are kept in this way
 abbrev pub checked_keeping : {O B : Type 0} → (keeping : Keeping ℕ O B) → World → List Package → ℕ → RulesOf keeping
 checked_keeping keeping w packages limit = record {
   world = w;
@@ -48,7 +48,7 @@ checked_keeping keeping w packages limit = record {
   kind = by_number;
   see = λ o. o;
   primitive = checked_primitive packages;
-  fresh = λ object. Some (new_list w object);
+  fresh = λ stobj. Some (new_list w stobj);
   export = checked_export keeping limit;
 }
 
@@ -61,10 +61,10 @@ checked w packages limit depth = evaluated (checked_rules w packages limit) dept
 
 -- ---- how an evaluation begins
 
--- with these objects in scope, and so many calls counted before
+-- with these stobjs in scope, and so many calls counted before
 abbrev pub begun : List QualifiedName → Stobjs ℕ → ℕ → State ℕ
 begun symbols stobjs used = record { stobjs = stobjs; symbols = symbols; calls = used; outer = 0 }
 
--- each object under its own name
+-- each stobj under its own name
 abbrev pub live : {S : Type 0} → Stobjs S → Variables S
-live stobjs = map (λ o. (o.0, Stobj o.0)) stobjs
+live stobjs = map (λ o. (o.0, StobjNamed o.0)) stobjs

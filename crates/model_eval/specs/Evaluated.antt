@@ -1,5 +1,5 @@
--- Evaluation of core forms, by recursion on how many more forms may be open. In which way the objects are kept is given, and
--- what checked and abstract evaluation do in different ways stands in a record of rules.
+-- Evaluation of core forms, by recursion on how many more forms may be open. In which way the stobjs are kept is given, and
+-- what checked and abstract evaluation do in different ways stands in a record of rules (ACL2's manual, topic EVALUATION).
 use Rattle.std.specs.Prelude.{ℕ, zero, suc, List, [], ◌∷◌, ◌++◌, map, Bool, true, Option, Some, None, nat_eq, if◌then◌else◌}
 use Rattle.std.specs.List.{list_any}
 use Rattle.model_objects.specs.Object.{Object}
@@ -10,12 +10,12 @@ use Rattle.model_terms.specs.Cores.{Core, Cores, Reached, Var, Const, If, Let, M
 use Rattle.model_terms.specs.Worlds.{World, Definition, FunctionOfAbstract, definition, Primitive, Defined, Macro, Constant, Concrete, Generated, Abstract, OfAbstract, Named, Signed}
 use Rattle.model_terms.specs.declared.role.AbstractRole.{AbstractRole}
 use Rattle.model_terms.specs.declared.role.AbstractRole.TheVariants as abstract_role
-use Rattle.model_eval.specs.Outcomes.{Shown, Plain, Stobj, Stobjs, Guard, Depth, StateOf, OutcomeOf, Gives, Unknown, then_with, with_state, stops_here, cut_at, counting}
+use Rattle.model_eval.specs.Outcomes.{Shown, Plain, StobjNamed, Stobjs, Guard, Depth, StateOf, OutcomeOf, Gives, Unknown, then_with, with_state, stops_here, cut_at, counting}
 use Rattle.model_eval.specs.Keeping.{Loan, Keeping, entering, handed, taken_back, unmaking}
-use Rattle.model_eval.specs.Scopes.{Variables, nothing, variable_in, bound, object_of, single, plain, inner_variables}
-use Rattle.model_eval.specs.Worlds.{stobj_layout}
-use Rattle.model_eval.specs.Generated.{generated}
-use Rattle.model_eval.specs.Children.{field_of, is_reached, loan_values, indices, are_twins}
+use Rattle.model_eval.specs.Variables.{Variables, nothing, variable_in, bound, object_of, single, plain, inner_variables}
+use Rattle.model_eval.specs.StobjLayouts.{stobj_layout}
+use Rattle.model_eval.specs.GeneratedCalls.{generated}
+use Rattle.model_eval.specs.Lending.{field_number, is_reached, loan_values, indices, are_twins}
 use Rattle.model_eval.specs.ListsKeeping.{lists_keeping}
 
 pub record RulesOf {S O B : Type 0} (keeping : Keeping S O B) : Type 0 where
@@ -24,7 +24,7 @@ pub record RulesOf {S O B : Type 0} (keeping : Keeping S O B) : Type 0 where
   pub kind : SymbolKind S
   pub see : Object ℕ → Object S  -- a constant of the world
   pub primitive : ℕ → Prim → List (Shown S) → StateOf O → OutcomeOf S O  -- a primitive, with its name
-  pub fresh : ℕ → Option (StobjList S)  -- the list of a new object of this name
+  pub fresh : ℕ → Option (StobjList S)  -- the list of a new stobj of this name
   -- an export, its guard having held: its actuals, what its call left behind, and what calls its exec function
   pub export : FunctionOfAbstract → List (Shown S) → B → (StateOf O → OutcomeOf S O) → StateOf O → OutcomeOf S O
 
@@ -32,7 +32,7 @@ pub record RulesOf {S O B : Type 0} (keeping : Keeping S O B) : Type 0 where
 abbrev pub EvaluatorOf : Type 0 → Type 0 → Type 0
 EvaluatorOf S O = Core → Variables S → StateOf O → OutcomeOf S O
 
--- the same where objects are kept as lists
+-- the same where stobjs are kept as lists
 abbrev pub Rules : Type 0 → Type 0
 Rules S = RulesOf (lists_keeping {S = S})
 
@@ -54,36 +54,36 @@ module _ {S O B : Type 0} {keeping : Keeping S O B} (r : RulesOf keeping) where
   scoped ev formals values form state =
       handed keeping formals values (keeping.behind state.stobjs) (ev form (inner_variables formals values) (entering keeping formals values state))
 
-  abbrev pub guarded : EvaluatorOf S O → ℕ → List ℕ → Core → List (Shown S) → (StateOf O → OutcomeOf S O) → StateOf O → OutcomeOf S O
-  guarded ev name formals guard values go state =
+  abbrev pub with_guard : EvaluatorOf S O → ℕ → List ℕ → Core → List (Shown S) → (StateOf O → OutcomeOf S O) → StateOf O → OutcomeOf S O
+  with_guard ev name formals guard values go state =
       then_with (scoped ev formals values guard state) (λ test after. if is_false test then stops_here (Guard name values) after else go after)
 
   -- a function that does not stand, or may not be called
   abbrev pub refused : ℕ → List (Shown S) → StateOf O → OutcomeOf S O
   refused name values state = stops_here (Guard name values) state
 
-  -- a function of an abstract object, whose call was counted; `exec` calls a function that is none
+  -- a function of an abstract stobj, whose call was counted; `exec` calls a function that is none
   abbrev pub of_abstract : EvaluatorOf S O → (ℕ → StateOf O → OutcomeOf S O) → FunctionOfAbstract → AbstractRole → List (Shown S) → StateOf O → OutcomeOf S O
   of_abstract ev exec f abstract_role.Recognizer values state = Gives (plain (truth_of r.kind true ∷ [])) state
   of_abstract ev exec f abstract_role.Creator values state = refused f.name values state
   of_abstract ev exec f abstract_role.Export values state =
-      cut_at state.outer (guarded ev f.name f.formals f.guard values (r.export f values (keeping.behind state.stobjs) (exec f.exec)) state)
+      cut_at state.outer (with_guard ev f.name f.formals f.guard values (r.export f values (keeping.behind state.stobjs) (exec f.exec)) state)
 
   -- a call that was counted, by what the function is
   abbrev pub by_definition : EvaluatorOf S O → (FunctionOfAbstract → StateOf O → OutcomeOf S O) → Option Definition → ℕ → List (Shown S) → StateOf O → OutcomeOf S O
   by_definition ev abstract None name values state = refused name values state
   by_definition ev abstract (Some (Primitive f row)) name values state = r.primitive f row.prim values state
-  by_definition ev abstract (Some (Defined f)) name values state = guarded ev f.name f.formals f.guard values (scoped ev f.formals values f.body) state
+  by_definition ev abstract (Some (Defined f)) name values state = with_guard ev f.name f.formals f.guard values (scoped ev f.formals values f.body) state
   by_definition ev abstract (Some (Macro f formals body)) name values state = refused name values state
   by_definition ev abstract (Some (Constant f value)) name values state = refused name values state
   by_definition ev abstract (Some (Concrete d class)) name values state = refused name values state
-  by_definition ev abstract (Some (Generated g)) name values state = generated keeping r.kind g (stobj_layout r.see r.world g.object) values state
+  by_definition ev abstract (Some (Generated g)) name values state = generated keeping r.kind g (stobj_layout r.see r.world g.stobj) values state
   by_definition ev abstract (Some (Abstract d)) name values state = refused name values state
   by_definition ev abstract (Some (OfAbstract f)) name values state = abstract f state
   by_definition ev abstract (Some (Named f formals)) name values state = refused name values state
   by_definition ev abstract (Some (Signed f formals signature executable)) name values state = refused name values state
 
-  -- an exec function, which is no function of an abstract object
+  -- an exec function, which is no function of an abstract stobj
   unfoldable pub exec_called : EvaluatorOf S O → List (Shown S) → ℕ → StateOf O → OutcomeOf S O
   exec_called ev values name state = by_definition ev (λ f after. refused name values after) (definition r.world name) name values state
 
@@ -109,7 +109,7 @@ module _ {S O B : Type 0} {keeping : Keeping S O B} (r : RulesOf keeping) where
   leaf (Mv parts) variables = None
   leaf (MvLet names bound body) variables = None
   leaf (StobjLet names bound vars producer consumer) variables = None
-  leaf (WithLocal object names producer body) variables = None
+  leaf (WithLocal stobj names producer body) variables = None
   leaf (MustBeEqual logic exec) variables = None
   leaf (Call f actuals) variables = None
 
@@ -127,7 +127,7 @@ module _ {S O B : Type 0} {keeping : Keeping S O B} (r : RulesOf keeping) where
   loan_of child parent by variables = record {
     child = child;
     parent = parent;
-    field = field_of (definition r.world by.accessor);
+    field = field_number (definition r.world by.accessor);
     index = index_of by.index variables;
   }
 
@@ -136,10 +136,10 @@ module _ {S O B : Type 0} {keeping : Keeping S O B} (r : RulesOf keeping) where
   borrowing accessor loan go state =
       if is_reached loan.index (item loan.field (keeping.read state.stobjs loan.parent)) then go state else stops_here (Guard accessor (loan_values loan)) state
 
-  -- the parent is the object that its variable is
+  -- the parent is the stobj that its variable is
   abbrev pub borrowed_from : ℕ → Reached → Shown S → Variables S → (Loan S → StateOf O → OutcomeOf S O) → StateOf O → OutcomeOf S O
   borrowed_from child by (Plain o) variables go state = stops_here Depth state
-  borrowed_from child by (Stobj p) variables go state =
+  borrowed_from child by (StobjNamed p) variables go state =
       let loan = loan_of child p by variables in counting r.limit state (borrowing by.accessor loan (go loan))
 
   abbrev pub borrowed : ℕ → Option Reached → Variables S → (Loan S → StateOf O → OutcomeOf S O) → StateOf O → OutcomeOf S O
@@ -165,7 +165,7 @@ module _ {S O B : Type 0} {keeping : Keeping S O B} (r : RulesOf keeping) where
   lending loans state = record state { stobjs = keeping.lend loans state.stobjs }
 
   abbrev pub loaned_variables : List (Loan S) → Variables S → Variables S
-  loaned_variables loans variables = map (λ (l : Loan S). (l.child, Stobj l.child)) loans ++ variables
+  loaned_variables loans variables = map (λ (l : Loan S). (l.child, StobjNamed l.child)) loans ++ variables
 
   -- the producer with the children in scope, which are then given back
   abbrev pub producing : EvaluatorOf S O → List ℕ → Core → Variables S → List (Loan S) → StateOf O → OutcomeOf S O
@@ -177,13 +177,13 @@ module _ {S O B : Type 0} {keeping : Keeping S O B} (r : RulesOf keeping) where
       if are_twins r.kind loans then stops_here (Guard stobj_let_word (indices loans)) state
       else then_with (producing ev vars producer variables loans state) (λ values after. ev consumer (bound vars values variables) after)
 
-  -- ---- local objects
+  -- ---- local stobjs
 
-  -- a form with a new object in scope, which is gone after it
+  -- a form with a new stobj in scope, which is gone after it
   abbrev pub with_fresh : EvaluatorOf S O → ℕ → Option (StobjList S) → Core → Variables S → StateOf O → OutcomeOf S O
   with_fresh ev x None producer variables state = Unknown
   with_fresh ev x (Some l) producer variables state =
-      with_state (unmaking keeping) (ev producer ((x, Stobj x) ∷ variables) (record state { stobjs = keeping.make x l state.stobjs }))
+      with_state (unmaking keeping) (ev producer ((x, StobjNamed x) ∷ variables) (record state { stobjs = keeping.make x l state.stobjs }))
 
   -- ---- forms that are opened
 
@@ -199,8 +199,8 @@ module _ {S O B : Type 0} {keeping : Keeping S O B} (r : RulesOf keeping) where
       then_with (ev form variables state) (λ values after. ev body (bound names values variables) after)
   opened ev (StobjLet names forms vars producer consumer) variables state =
       all_borrowed names forms variables [] (with_loans ev vars producer consumer variables) state
-  opened ev (WithLocal object names producer body) variables state =
-      then_with (counting r.limit state (with_fresh ev object (r.fresh object) producer variables)) (λ values after. ev body (bound names values variables) after)
+  opened ev (WithLocal stobj names producer body) variables state =
+      then_with (counting r.limit state (with_fresh ev stobj (r.fresh stobj) producer variables)) (λ values after. ev body (bound names values variables) after)
   opened ev (MustBeEqual logic exec) variables state = ev logic variables state
   opened ev (Call f actuals) variables state = in_order ev actuals variables [] (called ev f) state
 

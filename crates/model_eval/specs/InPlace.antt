@@ -1,4 +1,4 @@
--- Checked evaluation with the objects in place.
+-- Checked evaluation with the stobjs in place (Boyer and Moore, Single-Threaded Objects in ACL2, 2002).
 use Rattle.std.specs.Prelude.{ℕ, List, [], ◌∷◌, ◌+◌, map}
 use Rattle.model_symbols.specs.Symbols.{QualifiedName, Package}
 use Rattle.model_terms.specs.Worlds.{World}
@@ -16,7 +16,7 @@ in_place w packages limit depth = evaluated (in_place_rules w packages limit) de
 
 -- ---- how an evaluation begins
 
--- each object is a root of its own
+-- each stobj is a root of its own
 abbrev pub roots_from : {S : Type 0} → ℕ → Stobjs S → Places
 roots_from n [] = []
 roots_from n (o ∷ os) = (o.0, At n []) ∷ roots_from (n + 1) os

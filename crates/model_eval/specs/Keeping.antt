@@ -1,9 +1,9 @@
--- How the objects in scope are kept while forms are evaluated: in which way each is read, written, handed to a call and back,
--- lent, and made for a while.
+-- How the stobjs in scope are kept while forms are evaluated: in which way each is read, written, handed to a call and back,
+-- lent, and made for a while (Boyer and Moore, Single-Threaded Objects in ACL2, 2002).
 use Rattle.std.specs.Prelude.{ℕ, List, [], ◌∷◌, map, length, Option, nat_eq, if◌then◌else◌}
 use Rattle.model_objects.specs.Object.{Object}
 use Rattle.model_lists.specs.Lists.{StobjList}
-use Rattle.model_eval.specs.Outcomes.{Shown, Plain, Stobj, StateOf, OutcomeOf, Gives, Stops, Unknown}
+use Rattle.model_eval.specs.Outcomes.{Shown, Plain, StobjNamed, StateOf, OutcomeOf, Gives, Stops, Unknown}
 
 -- a child that is bound: its variable, and the field of its parent, with the index in an array of children
 pub record Loan (S : Type 0) : Type 0 where
@@ -12,23 +12,23 @@ pub record Loan (S : Type 0) : Type 0 where
   pub field : ℕ
   pub index : Option (Object S)
 
--- objects are named by their variables; `B` is what a call leaves behind
+-- stobjs are named by their variables; `B` is what a call leaves behind
 pub record Keeping (S O B : Type 0) : Type 0 where
-  -- the list of an object, and the objects with another list of it
+  -- the list of a stobj, and the stobjs with another list of it
   pub read : O → ℕ → StobjList S
   pub write : ℕ → StobjList S → O → O
-  -- a call's objects, by the names of its formals; what stays behind; and the objects after the call
+  -- a call's stobjs, by the names of its formals; what stays behind; and the stobjs after the call
   pub hand_over : List ℕ → List (Shown S) → O → O
   pub behind : O → B
   pub hand_back : List ℕ → List (Shown S) → O → B → O
-  -- children as the innermost objects; one put into its parent; and the objects without the innermost, so many
+  -- children as the innermost stobjs; one put into its parent; and the stobjs without the innermost, so many
   pub lend : List (Loan S) → O → O
   pub put : Loan S → O → O
   pub end_loans : ℕ → O → O
-  -- a new object as the innermost, and without it
+  -- a new stobj as the innermost, and without it
   pub make : ℕ → StobjList S → O → O
   pub unmake : O → O
-  -- the exec function of an export begins; it ended; or it stopped, and the object of the export's call, of which these are the
+  -- the exec function of an export begins; it ended; or it stopped, and the stobj of the export's call, of which these are the
   -- actuals and what it left behind, is again as it was then
   pub begin_export : O → O
   pub commit : O → O
@@ -39,11 +39,11 @@ abbrev pub actual_for : {S : Type 0} → List ℕ → List (Shown S) → ℕ →
 actual_for [] actuals x = x
 actual_for (y ∷ ys) [] x = x
 actual_for (y ∷ ys) (Plain o ∷ vs) x = actual_for ys vs x
-actual_for (y ∷ ys) (Stobj z ∷ vs) x = if nat_eq x y then z else actual_for ys vs x
+actual_for (y ∷ ys) (StobjNamed z ∷ vs) x = if nat_eq x y then z else actual_for ys vs x
 
 abbrev pub outer_value : {S : Type 0} → List ℕ → List (Shown S) → Shown S → Shown S
 outer_value formals actuals (Plain o) = Plain o
-outer_value formals actuals (Stobj x) = Stobj (actual_for formals actuals x)
+outer_value formals actuals (StobjNamed x) = StobjNamed (actual_for formals actuals x)
 
 module _ {S O B : Type 0} (keeping : Keeping S O B) where
   -- the state of a call's guard or body, and that after it

@@ -1,9 +1,9 @@
 pub mod Outcomes
 pub mod Keeping
-pub mod Scopes
-pub mod Worlds
-pub mod Generated
-pub mod Children
+pub mod Variables
+pub mod StobjLayouts
+pub mod GeneratedCalls
+pub mod Lending
 pub mod ListsKeeping
 pub mod PlacesKeeping
 pub mod Evaluated

@@ -1,11 +1,12 @@
--- Objects kept as lists, each by its variable, the innermost first. A call has the lists of its objects, which are handed back.
+-- Stobjs kept as lists, each by its variable, the innermost first. A call has the lists of its stobjs, which are handed back
+-- (ACL2's manual, topic STOBJ).
 use Rattle.std.specs.Prelude.{ℕ, List, ◌∷◌, ◌++◌, drop, Option, Some, None}
 use Rattle.model_eval.specs.Outcomes.{Shown, Stobjs, State, Outcome}
 use Rattle.model_eval.specs.Keeping.{Loan, Keeping, entering, leaving, handed, put_all, ending_loans, taken_back}
-use Rattle.model_eval.specs.Scopes.{list_of, with_list, inner_stobjs, handed_back, first_stobj}
-use Rattle.model_eval.specs.Children.{lent, put_into_parent}
+use Rattle.model_eval.specs.Variables.{list_of, with_list, inner_stobjs, handed_back, first_stobj}
+use Rattle.model_eval.specs.Lending.{lent, put_into_parent}
 
--- the object has again the list that it had before
+-- the stobj has again the list that it had before
 abbrev pub list_restored : {S : Type 0} → Option ℕ → Stobjs S → Stobjs S → Stobjs S
 list_restored None before stobjs = stobjs
 list_restored (Some x) before stobjs = with_list x (list_of before x) stobjs

@@ -1,4 +1,4 @@
--- What an evaluation ends with.
+-- What an evaluation ends with (ACL2's manual, topic EVALUATION).
 use Rattle.std.specs.Prelude.{ℕ, ◌+◌, List, Option, Some, None, nat_lt, if◌then◌else◌}
 use Rattle.model_objects.specs.Object.{Object}
 use Rattle.model_symbols.specs.Symbols.{QualifiedName}
@@ -7,7 +7,7 @@ use Rattle.model_lists.specs.Lists.{StobjList}
 -- what a form gives, and what a variable or a formal is
 pub data Shown (S : Type 0) : Type 0 where
   Plain : Object S → Shown S  -- an ordinary value
-  Stobj : ℕ → Shown S  -- an object, by the variable that it has where it is seen
+  StobjNamed : ℕ → Shown S  -- a stobj, by the variable that it has where it is seen
 
 -- why an evaluation stopped; functions by name
 pub data Stop (S : Type 0) : Type 0 where
@@ -18,11 +18,11 @@ pub data Stop (S : Type 0) : Type 0 where
   Large : ℕ → Stop S
   Symbols : ℕ → Stop S
 
--- the list of each object in scope by its variable, the innermost first
+-- the list of each stobj in scope by its variable, the innermost first
 abbrev pub Stobjs : Type 0 → Type 0
 Stobjs S = List (ℕ × StobjList S)
 
--- what is threaded through an evaluation; `O` is what the objects in scope are kept in
+-- what is threaded through an evaluation; `O` is what the stobjs in scope are kept in
 pub record StateOf (O : Type 0) : Type 0 where
   pub stobjs : O
   pub symbols : List QualifiedName
@@ -42,7 +42,7 @@ pub data OutcomeOf (S O : Type 0) : Type 0 where
   Stops : Stop S → Origin → StateOf O → OutcomeOf S O
   Unknown : OutcomeOf S O  -- no outcome, as a value of the logic does not end
 
--- the same where each object is kept as its list
+-- the same where each stobj is kept as its list
 abbrev pub State : Type 0 → Type 0
 State S = StateOf (Stobjs S)
 

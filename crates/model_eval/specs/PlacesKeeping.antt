@@ -1,19 +1,19 @@
--- Objects kept in place: one list for each root, and for each object in scope the place in one of them where its list stands.
--- A call has the places of its objects under other names, children are places inside their parents, and a write changes
--- a root's list at the place. So nothing is handed back, and nothing is put back. While the exec function of an export runs, the
--- lists from before it are remembered, for a stop to bring them back.
+-- Stobjs kept in place: one list for each root, and for each stobj in scope the place in one of them where its list stands. A
+-- call has the places of its stobjs under other names, children are places inside their parents, and a write changes a root's
+-- list at the place. So nothing is handed back, and nothing is put back. While the exec function of an export runs, the lists
+-- from before it are remembered, for a stop to bring them back (Boyer and Moore, Single-Threaded Objects in ACL2, 2002).
 use Rattle.std.specs.Prelude.{ℕ, zero, suc, ◌+◌, ◌-◌, List, [], ◌∷◌, ◌++◌, drop, take, length, Option, Some, None, nat_eq, if◌then◌else◌}
 use Rattle.model_objects.specs.Object.{Object}
 use Rattle.model_prims.specs.Numbers.{natural_of}
 use Rattle.model_lists.specs.Lists.{StobjList, End, item, with_item}
-use Rattle.model_eval.specs.Outcomes.{Shown, Plain, Stobj}
+use Rattle.model_eval.specs.Outcomes.{Shown, Plain, StobjNamed}
 use Rattle.model_eval.specs.Keeping.{Loan, Keeping}
 
 pub data Place : Type 0 where
   Nowhere : Place
   At : ℕ → List ℕ → Place  -- a root, and the items on the way from its list
 
--- the place of each object in scope by its variable, the innermost first
+-- the place of each stobj in scope by its variable, the innermost first
 abbrev pub Places : Type 0
 Places = List (ℕ × Place)
 
@@ -22,7 +22,7 @@ pub data Journal (S : Type 0) : Type 0 where
   Closed : Journal S
   Open : ℕ → List (StobjList S) → Journal S
 
--- the objects in scope, the lists of the roots, and what is remembered
+-- the stobjs in scope, the lists of the roots, and what is remembered
 pub record Store (S : Type 0) : Type 0 where
   pub scope : Places
   pub roots : List (StobjList S)
@@ -56,7 +56,7 @@ abbrev pub inner_places : {S : Type 0} → List ℕ → List (Shown S) → Place
 inner_places [] actuals scope = []
 inner_places (x ∷ xs) [] scope = []
 inner_places (x ∷ xs) (Plain o ∷ vs) scope = inner_places xs vs scope
-inner_places (x ∷ xs) (Stobj y ∷ vs) scope = (x, place_of scope y) ∷ inner_places xs vs scope
+inner_places (x ∷ xs) (StobjNamed y ∷ vs) scope = (x, place_of scope y) ∷ inner_places xs vs scope
 
 -- ---- lists at places
 

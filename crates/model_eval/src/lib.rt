@@ -1,2 +1,2 @@
-//! Evaluation of core forms over a keeping of objects: as lists, and in place. Definitions.
+//! Evaluation of core forms over a keeping of stobjs: as lists, and in place. Definitions.
 #![tactic(auto)]

@@ -1,4 +1,4 @@
--- Evaluation with rules that do not tell objects apart that are alike does not either; checked evaluation has such rules.
+-- Evaluation with rules that do not tell stobjs apart that are alike does not either; checked evaluation has such rules.
 use Rattle.std.proofs.Common.{◌≡◌, ℕ, zero, suc, List, [], ◌∷◌, ◌++◌, length, Bool, true, false, Option, Some, None, refl, sym, ap, subst}
 use Rattle.std.specs.Prelude.{nat_lt, nat_eq, unwrap_or, if◌then◌else◌}
 use Rattle.std.specs.List.{list_any}
@@ -11,25 +11,25 @@ use Rattle.model_prims.specs.Applied as prims
 use Rattle.model_prims.specs.declared.prim.Prim.{Prim}
 use Rattle.model_lists.specs.Lists.{StobjList, item}
 use Rattle.model_lists.specs.Layouts.{Layout, field_layout}
-use Rattle.model_lists.specs.Standing.{AreAlike}
-use Rattle.model_lists.specs.Generated.{Effect, Refuses, Reads, Writes, is_index}
-use Rattle.model_lists_laws.specs.Standing.{AlikeEffects}
+use Rattle.model_lists.specs.LiveLists.{AreAlike}
+use Rattle.model_lists.specs.Effects.{Effect, Refuses, Reads, Writes, is_index}
+use Rattle.model_lists_laws.specs.LiveListLaws.{AlikeEffects}
 use Rattle.model_lists_laws.proofs.StandingLemmas.{item_alike, size_alike}
 use Rattle.model_terms.specs.Cores.{Core, Cores, Reached, Var, Const, If, Let, Mv, MvLet, StobjLet, WithLocal, MustBeEqual, Call, none, more, reached}
 use Rattle.model_terms.specs.Worlds.{World, Definition, GeneratedFunction, FunctionOfAbstract, definition, Primitive, Defined, Macro, Constant, Concrete, Generated, Abstract, OfAbstract, Named, Signed}
 use Rattle.model_terms.specs.declared.role.AbstractRole.{AbstractRole}
 use Rattle.model_terms.specs.declared.role.AbstractRole.TheVariants as abstract_role
-use Rattle.model_eval.specs.Outcomes.{Shown, Plain, Stobj, Stop, Guard, Steps, Stobjs, State, Origin, Outcome, Gives, Stops, Unknown, then_with, with_state, stops_here, cut_before, cut_at, one_more_call, counting}
+use Rattle.model_eval.specs.Outcomes.{Shown, Plain, StobjNamed, Stop, Guard, Steps, Stobjs, State, Origin, Outcome, Gives, Stops, Unknown, then_with, with_state, stops_here, cut_before, cut_at, one_more_call, counting}
 use Rattle.model_eval.specs.Keeping.{entering, handed, taken_back, unmaking}
-use Rattle.model_eval.specs.Scopes.{Variables, variable_in, bound, single, plain, ordinary, inner_variables, inner_stobjs, list_of, first_stobj}
-use Rattle.model_eval.specs.Worlds.{stobj_layout}
-use Rattle.model_eval.specs.Generated.{effected, list_or_none, generated}
-use Rattle.model_eval.specs.Children.{Loan, is_reached, loan_values, are_twins, lent, put_into_parent}
+use Rattle.model_eval.specs.Variables.{Variables, variable_in, bound, single, plain, ordinary, inner_variables, inner_stobjs, list_of, first_stobj}
+use Rattle.model_eval.specs.StobjLayouts.{stobj_layout}
+use Rattle.model_eval.specs.GeneratedCalls.{effected, list_or_none, generated}
+use Rattle.model_eval.specs.Lending.{Loan, is_reached, loan_values, are_twins, lent, put_into_parent}
 use Rattle.model_eval.specs.ListsKeeping.{lists_keeping, all_put}
-use Rattle.model_eval.specs.Evaluated.{Rules, Evaluator, is_false, scoped, guarded, of_abstract, by_definition, exec_called, called, in_order, leaf, leaf_or, loan_of, borrowing, borrowed_from, borrowed, all_borrowed, put_back, lending, loaned_variables, producing, with_loans, with_fresh, opened, evaluated}
+use Rattle.model_eval.specs.Evaluated.{Rules, Evaluator, is_false, scoped, with_guard, of_abstract, by_definition, exec_called, called, in_order, leaf, leaf_or, loan_of, borrowing, borrowed_from, borrowed, all_borrowed, put_back, lending, loaned_variables, producing, with_loans, with_fresh, opened, evaluated}
 use Rattle.model_eval.specs.Checked.{primitive_ended, inside_after, checked_export, checked_rules, checked, begun, live}
 use Rattle.model_eval_alike.specs.Alike.{AreAlikeStobjs, AreAlikeStates, AreAlikeOutcomes}
-use Rattle.model_eval_alike.specs.Standing.{FunctionsAreAlike}
+use Rattle.model_eval_alike.specs.FunctionLaws.{FunctionsAreAlike}
 use Rattle.model_eval_alike.specs.Laws.{EvaluatesAlike}
 use Rattle.model_eval_alike.proofs.StandingLemmas.{numbered_functions}
 use Rattle.model_eval_alike.proofs.ObjectLemmas.{list_alike, write_alike, list_or_none_alike, drop_alike, append_alike, live_alike, inner_alike, back_alike, restored_alike, lent_alike, put_alike, all_put_alike}
@@ -49,7 +49,7 @@ module _ {S : Type 0} (names : S → S → Ordering) where
   state_is : (a b : State S) → AreAlikeStates names a b → b ≡ record a { stobjs = b.stobjs }
   state_is a b h = λ i. record { stobjs = b.stobjs; symbols = sym h.symbols i; calls = sym h.calls i; outer = sym h.outer i }
 
-  -- the same continuation, or two that end alike on objects that are alike
+  -- the same continuation, or two that end alike on stobjs that are alike
   abbrev pub ToSame : (State S → Outcome S) → (State S → Outcome S) → Type 0
   ToSame go to = (state : State S) (stobjs : Stobjs S) → AllAlike state.stobjs stobjs → Same (go state) (to (record state { stobjs = stobjs }))
 
@@ -116,7 +116,7 @@ module _ {S : Type 0} (names : S → S → Ordering) where
   same_counting : (limit : ℕ) (go to : State S → Outcome S) → ToSame go to → ToSame (λ state. counting limit state go) (λ state. counting limit state to)
   same_counting limit go to h state stobjs g = same_if (nat_lt state.calls limit) _ _ _ _ (h (one_more_call state) stobjs g) (same_here Steps state stobjs g)
 
-  -- ---- functions of objects
+  -- ---- functions of stobjs
 
   same_effected : (function : ℕ) (values : List (Shown S)) (x : Option ℕ) (d e : Effect S) → AlikeEffects names d e → ToSame (λ state. effected lists_keeping function values x state d) (λ state. effected lists_keeping function values x state e)
   same_effected function values x Refuses Refuses i state stobjs h = (refl, refl, same_state state stobjs h)
@@ -156,7 +156,7 @@ module _ {S : Type 0} (names : S → S → Ordering) where
           same_handed formals values state.stobjs stobjs h _ _
           (same form (inner_variables formals values) (entering lists_keeping formals values state) (inner_stobjs formals values stobjs) (inner_alike names formals values state.stobjs stobjs h))
 
-      same_guarded : (name : ℕ) (formals : List ℕ) (guard : Core) (values : List (Shown S)) (go to : State S → Outcome S) → ToSame go to → ToSame (guarded r ev name formals guard values go) (guarded r ev name formals guard values to)
+      same_guarded : (name : ℕ) (formals : List ℕ) (guard : Core) (values : List (Shown S)) (go to : State S → Outcome S) → ToSame go to → ToSame (with_guard r ev name formals guard values go) (with_guard r ev name formals guard values to)
       same_guarded name formals guard values go to k state stobjs h =
           same_then _ _ _ _ (same_scoped formals values guard state stobjs h) (λ test after others i. same_if (is_false r test) _ _ _ _ (same_here _ after others i) (k after others i))
 
@@ -174,7 +174,7 @@ module _ {S : Type 0} (names : S → S → Ordering) where
       same_definition go (Some (Macro f formals body)) name values k state stobjs h = same_here _ state stobjs h
       same_definition go (Some (Constant f value)) name values k state stobjs h = same_here _ state stobjs h
       same_definition go (Some (Concrete d class)) name values k state stobjs h = same_here _ state stobjs h
-      same_definition go (Some (Generated f)) name values k state stobjs h = same_generated f (stobj_layout r.see r.world f.object) values state stobjs h
+      same_definition go (Some (Generated f)) name values k state stobjs h = same_generated f (stobj_layout r.see r.world f.stobj) values state stobjs h
       same_definition go (Some (Abstract d)) name values k state stobjs h = same_here _ state stobjs h
       same_definition go (Some (OfAbstract f)) name values k state stobjs h = k f state stobjs h
       same_definition go (Some (Named f formals)) name values k state stobjs h = same_here _ state stobjs h
@@ -215,7 +215,7 @@ module _ {S : Type 0} (names : S → S → Ordering) where
 
       same_borrowed_from : (child : ℕ) (by : Reached) (p : Shown S) (variables : Variables S) (go : Loan S → State S → Outcome S) → ((loan : Loan S) → ToSame (go loan) (go loan)) → ToSame (borrowed_from r child by p variables go) (borrowed_from r child by p variables go)
       same_borrowed_from child by (Plain o) variables go k state stobjs h = same_here _ state stobjs h
-      same_borrowed_from child by (Stobj p) variables go k state stobjs h =
+      same_borrowed_from child by (StobjNamed p) variables go k state stobjs h =
           same_counting r.limit (borrowing r by.accessor (loan_of r child p by variables) (go (loan_of r child p by variables))) (borrowing r by.accessor (loan_of r child p by variables) (go (loan_of r child p by variables)))
           (same_borrowing by.accessor (loan_of r child p by variables) (go (loan_of r child p by variables)) (k (loan_of r child p by variables))) state stobjs h
 
@@ -252,12 +252,12 @@ module _ {S : Type 0} (names : S → S → Ordering) where
           same_if (are_twins r.kind loans) _ _ _ _ (same_here _ state stobjs h)
           (same_then _ _ _ _ (same_producing vars producer variables loans state stobjs h) (λ values after others i. same consumer (bound vars values variables) after others i))
 
-      -- ---- local objects
+      -- ---- local stobjs
 
       same_fresh : (x : ℕ) (l : Option (StobjList S)) (producer : Core) (variables : Variables S) → ToSame (with_fresh r ev x l producer variables) (with_fresh r ev x l producer variables)
       same_fresh x None producer variables state stobjs h = tt
       same_fresh x (Some l) producer variables state stobjs h =
-          same_unmade _ _ (same producer ((x, Stobj x) ∷ variables) (record state { stobjs = (x, l) ∷ state.stobjs }) ((x, l) ∷ stobjs) (refl, refl, h))
+          same_unmade _ _ (same producer ((x, StobjNamed x) ∷ variables) (record state { stobjs = (x, l) ∷ state.stobjs }) ((x, l) ∷ stobjs) (refl, refl, h))
 
       -- ---- forms
 
@@ -273,8 +273,8 @@ module _ {S : Type 0} (names : S → S → Ordering) where
           same_then _ _ _ _ (same form variables state stobjs h) (λ values after others i. same body (bound ns values variables) after others i)
       same_opened (StobjLet ns forms vars producer consumer) variables state stobjs h =
           same_all_borrowed ns forms variables [] (with_loans r ev vars producer consumer variables) (λ loans. same_with_loans vars producer consumer variables loans) state stobjs h
-      same_opened (WithLocal object ns producer body) variables state stobjs h =
-          same_then _ _ _ _ (same_counting r.limit (with_fresh r ev object (r.fresh object) producer variables) (with_fresh r ev object (r.fresh object) producer variables) (same_fresh object (r.fresh object) producer variables) state stobjs h) (λ values after others i. same body (bound ns values variables) after others i)
+      same_opened (WithLocal stobj ns producer body) variables state stobjs h =
+          same_then _ _ _ _ (same_counting r.limit (with_fresh r ev stobj (r.fresh stobj) producer variables) (with_fresh r ev stobj (r.fresh stobj) producer variables) (same_fresh stobj (r.fresh stobj) producer variables) state stobjs h) (λ values after others i. same body (bound ns values variables) after others i)
       same_opened (MustBeEqual logic exec) variables state stobjs h = same logic variables state stobjs h
       same_opened (Call f actuals) variables state stobjs h = same_in_order actuals variables [] (called r ev f) (λ values. same_called f values) state stobjs h
 
@@ -298,7 +298,7 @@ module _ (names : ℕ → ℕ → Ordering) where
   same_primitive f values (prims.Stops prims.Large) state stobjs h = same_here names _ state stobjs h
   same_primitive f values (prims.Stops prims.Symbols) state stobjs h = same_here names _ state stobjs h
 
-  -- where the export stops, its object is restored to a list that is alike
+  -- where the export stops, its stobj is restored to a list that is alike
   same_inside : (actuals : List (Shown ℕ)) (os ps : Stobjs ℕ) → AreAlikeStobjs names os ps → (export outer : ℕ) (r s : Outcome ℕ) → Same names r s
       → Same names (inside_after lists_keeping actuals os export outer r) (inside_after lists_keeping actuals ps export outer s)
   same_inside actuals os ps g export outer r s e =

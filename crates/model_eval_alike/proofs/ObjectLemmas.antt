@@ -6,17 +6,17 @@ use Rattle.std.specs.declared.cmp.Ordering.{Ordering}
 use Rattle.model_objects.specs.Object.{Object}
 use Rattle.model_prims.specs.Numbers.{natural_of}
 use Rattle.model_lists.specs.Lists.{StobjList, item}
-use Rattle.model_lists.specs.Standing.{AreAlike}
+use Rattle.model_lists.specs.LiveLists.{AreAlike}
 use Rattle.model_lists_laws.proofs.CanonicalLemmas.{canonical_lists}
 use Rattle.model_lists_laws.proofs.StandingLemmas.{item_alike, with_alike}
-use Rattle.model_eval.specs.Outcomes.{Shown, Plain, Stobj, Stobjs}
-use Rattle.model_eval.specs.Scopes.{list_of, with_list, inner_stobjs, handed_back}
-use Rattle.model_eval.specs.Generated.{list_or_none}
-use Rattle.model_eval.specs.Children.{Loan, child_in, with_child_in, with_child, lent, put_into_parent}
+use Rattle.model_eval.specs.Outcomes.{Shown, Plain, StobjNamed, Stobjs}
+use Rattle.model_eval.specs.Variables.{list_of, with_list, inner_stobjs, handed_back}
+use Rattle.model_eval.specs.GeneratedCalls.{list_or_none}
+use Rattle.model_eval.specs.Lending.{Loan, child_in, with_child_in, with_child, lent, put_into_parent}
 use Rattle.model_eval.specs.ListsKeeping.{lists_keeping, list_restored, all_put}
 use Rattle.model_eval.specs.Checked.{live}
-use Rattle.model_eval_alike.specs.Alike.{AreAlikeStobjs, canonical_objects}
-use Rattle.model_eval_alike.specs.Laws.{IsLikeness, CanonicalObjects}
+use Rattle.model_eval_alike.specs.Alike.{AreAlikeStobjs, canonical_stobjs}
+use Rattle.model_eval_alike.specs.Laws.{IsLikeness, CanonicalStobjs}
 
 module _ {S : Type 0} (names : S → S → Ordering) where
   abbrev Alike : StobjList S → StobjList S → Type 0
@@ -100,13 +100,13 @@ module _ {S : Type 0} (names : S → S → Ordering) where
   inner_alike [] vs os ps h = tt
   inner_alike (x ∷ xs) [] os ps h = tt
   inner_alike (x ∷ xs) (Plain o ∷ vs) os ps h = inner_alike xs vs os ps h
-  inner_alike (x ∷ xs) (Stobj y ∷ vs) os ps h = (refl, list_alike os ps y h, inner_alike xs vs os ps h)
+  inner_alike (x ∷ xs) (StobjNamed y ∷ vs) os ps h = (refl, list_alike os ps y h, inner_alike xs vs os ps h)
 
   pub back_alike : (xs : List ℕ) (vs : List (Shown S)) (is js os ps : Stobjs S) → AllAlike is js → AllAlike os ps → AllAlike (handed_back xs vs is os) (handed_back xs vs js ps)
   back_alike [] vs is js os ps g h = h
   back_alike (x ∷ xs) [] is js os ps g h = h
   back_alike (x ∷ xs) (Plain o ∷ vs) is js os ps g h = back_alike xs vs is js os ps g h
-  back_alike (x ∷ xs) (Stobj y ∷ vs) is js os ps g h =
+  back_alike (x ∷ xs) (StobjNamed y ∷ vs) is js os ps g h =
       back_alike xs vs is js (with_list y (list_of is x) os) (with_list y (list_of js x) ps) g (write_alike y (list_of is x) (list_of js x) os ps (list_alike is js x g) h)
 
   pub restored_alike : (x : Option ℕ) (us vs os ps : Stobjs S) → AllAlike us vs → AllAlike os ps → AllAlike (list_restored x us os) (list_restored x vs ps)
@@ -144,20 +144,20 @@ module _ {S : Type 0} (names : S → S → Ordering) where
 
 -- ---- canonical lists
 
-objects_canonical : (os : Stobjs ℕ) → AreAlikeStobjs nat_cmp os (canonical_objects os)
+objects_canonical : (os : Stobjs ℕ) → AreAlikeStobjs nat_cmp os (canonical_stobjs os)
 objects_canonical [] = tt
 objects_canonical (o ∷ os) = (refl, sym (canonical_lists.twice o.1), objects_canonical os)
 
-one_for_all : (os ps : Stobjs ℕ) → AreAlikeStobjs nat_cmp os ps → canonical_objects os ≡ canonical_objects ps
+one_for_all : (os ps : Stobjs ℕ) → AreAlikeStobjs nat_cmp os ps → canonical_stobjs os ≡ canonical_stobjs ps
 one_for_all [] [] h = refl
 one_for_all [] (p ∷ ps) h = absurd h
 one_for_all (o ∷ os) [] h = absurd h
 one_for_all (o ∷ os) (p ∷ ps) h = rw (h.0, h.1, one_for_all os ps h.2) refl
 
-back_from_canonical : (os ps : Stobjs ℕ) → canonical_objects os ≡ canonical_objects ps → AreAlikeStobjs nat_cmp os ps
+back_from_canonical : (os ps : Stobjs ℕ) → canonical_stobjs os ≡ canonical_stobjs ps → AreAlikeStobjs nat_cmp os ps
 back_from_canonical os ps e =
-    objects_joined nat_cmp os (canonical_objects os) ps (objects_canonical os)
-    (subst (λ (qs : Stobjs ℕ). AreAlikeStobjs nat_cmp qs ps) (sym e) (objects_turned nat_cmp ps (canonical_objects ps) (objects_canonical ps)))
+    objects_joined nat_cmp os (canonical_stobjs os) ps (objects_canonical os)
+    (subst (λ (qs : Stobjs ℕ). AreAlikeStobjs nat_cmp qs ps) (sym e) (objects_turned nat_cmp ps (canonical_stobjs ps) (objects_canonical ps)))
 
-pub canonical_objects_stand : CanonicalObjects
-canonical_objects_stand = record { alike = objects_canonical; one = one_for_all; back = back_from_canonical }
+pub canonical_stobjs_stand : CanonicalStobjs
+canonical_stobjs_stand = record { alike = objects_canonical; one = one_for_all; back = back_from_canonical }

@@ -1,4 +1,4 @@
--- The functions of an object on lists that stand for one object.
+-- The functions of a stobj on lists that stand for one stobj.
 use Rattle.std.proofs.Common.{ℕ, List, refl}
 use Rattle.std.specs.Ordering.{nat_cmp}
 use Rattle.std.specs.declared.cmp.Ordering.{Ordering}
@@ -7,14 +7,14 @@ use Rattle.model_prims.specs.Kinds.{SymbolKind, by_name, by_number}
 use Rattle.model_lists.specs.Lists.{StobjList}
 use Rattle.model_lists.specs.Layouts.{Layout, field_layout}
 use Rattle.model_lists.specs.Normal.{name_cmp}
-use Rattle.model_lists.specs.Standing.{HasFields, AreAlike}
-use Rattle.model_lists_laws.specs.Standing.{AlikeEffects, KeepsFields, ListsAreReadAlike}
+use Rattle.model_lists.specs.LiveLists.{HasFields, AreAlike}
+use Rattle.model_lists_laws.specs.LiveListLaws.{AlikeEffects, KeepsFields, ListsAreReadAlike}
 use Rattle.model_lists_laws.proofs.AlikeLemmas.{named_alike, numbered_alike}
 use Rattle.model_lists_laws.proofs.KeptFields.{writes_keep_fields}
 use Rattle.model_terms.specs.declared.role.Role.{Role}
 use Rattle.model_terms.specs.declared.role.Role.TheVariants as role
-use Rattle.model_eval.specs.Generated.{effect}
-use Rattle.model_eval_alike.specs.Standing.{SuitsRole, FunctionsAreAlike}
+use Rattle.model_eval.specs.GeneratedCalls.{effect}
+use Rattle.model_eval_alike.specs.FunctionLaws.{SuitsRole, FunctionsAreAlike}
 
 effects_alike : {S : Type 0} (k : SymbolKind S) (names : S → S → Ordering) → ListsAreReadAlike k names → (r : Role) (layout : Layout S) (f : ℕ) (args : List (Object S)) (l m : StobjList S) → AreAlike names l m
     → AlikeEffects names (effect k r layout f args l) (effect k r layout f args m)

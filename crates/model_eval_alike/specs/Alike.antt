@@ -1,8 +1,8 @@
--- Objects, states and outcomes that are alike: the same names one by one, with lists that stand for one live object, and else the same.
+-- Objects, states and outcomes that are alike: the same names one by one, with lists that stand for one live stobj, and else the same.
 use Rattle.std.specs.Prelude.{◌≡◌, ℕ, [], ◌∷◌, map}
 use Rattle.std.specs.declared.cmp.Ordering.{Ordering}
 use Rattle.model_lists.specs.Normal.{canonical}
-use Rattle.model_lists.specs.Standing.{AreAlike}
+use Rattle.model_lists.specs.LiveLists.{AreAlike}
 use Rattle.model_eval.specs.Outcomes.{Stobjs, State, Outcome, Gives, Stops, Unknown}
 
 module _ {S : Type 0} (names : S → S → Ordering) where
@@ -30,6 +30,6 @@ module _ {S : Type 0} (names : S → S → Ordering) where
   AreAlikeOutcomes Unknown (Stops cause source b) = ⊥
   AreAlikeOutcomes Unknown Unknown = Unit {0}
 
--- the objects with their canonical lists
-abbrev pub canonical_objects : Stobjs ℕ → Stobjs ℕ
-canonical_objects stobjs = map (λ o. (o.0, canonical o.1)) stobjs
+-- the stobjs with their canonical lists
+abbrev pub canonical_stobjs : Stobjs ℕ → Stobjs ℕ
+canonical_stobjs stobjs = map (λ o. (o.0, canonical o.1)) stobjs

@@ -1,3 +1,3 @@
 pub mod Alike
-pub mod Standing
+pub mod FunctionLaws
 pub mod Laws

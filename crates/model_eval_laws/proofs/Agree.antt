@@ -7,13 +7,13 @@ use Rattle.model_terms.specs.Cores.{Core, Cores, Reached, Var, Const, If, Let, M
 use Rattle.model_terms.specs.Worlds.{World, Definition, FunctionOfAbstract, definition, Primitive, Defined, Macro, Constant, Concrete, Generated, Abstract, OfAbstract, Named, Signed}
 use Rattle.model_terms.specs.declared.role.AbstractRole.{AbstractRole}
 use Rattle.model_terms.specs.declared.role.AbstractRole.TheVariants as abstract_role
-use Rattle.model_eval.specs.Outcomes.{Shown, Plain, Stobj, Stop, Steps, Depth, State, Outcome, Gives, Stops, Unknown, then_with, with_state, cut_at, one_more_call, counting, stops_here, Stobjs}
-use Rattle.model_eval.specs.Scopes.{Variables, variable_in, bound, single, inner_variables, list_of}
-use Rattle.model_eval.specs.Worlds.{stobj_layout}
-use Rattle.model_eval.specs.Generated.{generated}
-use Rattle.model_eval.specs.Children.{Loan, is_reached, are_twins, put_into_parent}
+use Rattle.model_eval.specs.Outcomes.{Shown, Plain, StobjNamed, Stop, Steps, Depth, State, Outcome, Gives, Stops, Unknown, then_with, with_state, cut_at, one_more_call, counting, stops_here, Stobjs}
+use Rattle.model_eval.specs.Variables.{Variables, variable_in, bound, single, inner_variables, list_of}
+use Rattle.model_eval.specs.StobjLayouts.{stobj_layout}
+use Rattle.model_eval.specs.GeneratedCalls.{generated}
+use Rattle.model_eval.specs.Lending.{Loan, is_reached, are_twins, put_into_parent}
 use Rattle.model_eval.specs.ListsKeeping.{lists_keeping, inner_state, back, without_innermost, returned}
-use Rattle.model_eval.specs.Evaluated.{Rules, Evaluator, is_false, scoped, guarded, refused, of_abstract, by_definition, exec_called, called, in_order, leaf, leaf_or, loan_of, borrowing, borrowed_from, borrowed, all_borrowed, put_back, lending, loaned_variables, producing, with_loans, with_fresh, opened, evaluated}
+use Rattle.model_eval.specs.Evaluated.{Rules, Evaluator, is_false, scoped, with_guard, refused, of_abstract, by_definition, exec_called, called, in_order, leaf, leaf_or, loan_of, borrowing, borrowed_from, borrowed, all_borrowed, put_back, lending, loaned_variables, producing, with_loans, with_fresh, opened, evaluated}
 use Rattle.model_eval_laws.specs.Agreement.{Agrees, ReachedStands, Closed, AllClosed, AllReached, ClosedDefinition}
 
 module _ {S : Type 0} (Excused : Stop S → Type 0) where
@@ -98,7 +98,7 @@ module _ {S : Type 0} (Excused : Stop S → Type 0) where
       agrees_scoped ev eu formals values form h c state =
           agrees_back formals values state _ _ (h form (inner_variables formals values) (inner_state formals values state) c)
 
-      agrees_guarded : (ev eu : Evaluator S) (name : ℕ) (formals : List ℕ) (guard : Core) (values : List (Shown S)) (go to : State S → Outcome S) → EvAgrees ev eu → Closed Stands guard → ToAgrees go to → ToAgrees (guarded r ev name formals guard values go) (guarded later_rules eu name formals guard values to)
+      agrees_guarded : (ev eu : Evaluator S) (name : ℕ) (formals : List ℕ) (guard : Core) (values : List (Shown S)) (go to : State S → Outcome S) → EvAgrees ev eu → Closed Stands guard → ToAgrees go to → ToAgrees (with_guard r ev name formals guard values go) (with_guard later_rules eu name formals guard values to)
       agrees_guarded ev eu name formals guard values go to h c k state =
           agrees_then _ _ _ _ (agrees_scoped ev eu formals values guard h c state)
           (λ test after. agrees_if (is_false r test) _ _ _ _ (inr refl) (k after))
@@ -118,7 +118,7 @@ module _ {S : Type 0} (Excused : Stop S → Type 0) where
       agrees_definition ev eu go to (Constant f value) name values h c k state = inr refl
       agrees_definition ev eu go to (Concrete d class) name values h c k state = inr refl
       agrees_definition ev eu go to (Generated f) name values h c k state =
-          rw (g.layouts f.object c) (agrees_same (generated lists_keeping r.kind f (stobj_layout r.see r.world f.object) values state))
+          rw (g.layouts f.stobj c) (agrees_same (generated lists_keeping r.kind f (stobj_layout r.see r.world f.stobj) values state))
       agrees_definition ev eu go to (Abstract d) name values h c k state = inr refl
       agrees_definition ev eu go to (OfAbstract f) name values h c k state = k f c state
       agrees_definition ev eu go to (Named f formals) name values h c k state = inr refl
@@ -164,7 +164,7 @@ module _ {S : Type 0} (Excused : Stop S → Type 0) where
 
       agrees_borrowed_from : (child : ℕ) (by : Reached) (p : Shown S) (variables : Variables S) (go to : Loan S → State S → Outcome S) → Stands by.accessor → ((loan : Loan S) → ToAgrees (go loan) (to loan)) → ToAgrees (borrowed_from r child by p variables go) (borrowed_from later_rules child by p variables to)
       agrees_borrowed_from child by (Plain o) variables go to c k state = inr refl
-      agrees_borrowed_from child by (Stobj p) variables go to c k state =
+      agrees_borrowed_from child by (StobjNamed p) variables go to c k state =
           rw (g.definitions by.accessor c)
           (agrees_counting state _ _ (agrees_borrowing by.accessor (loan_of r child p by variables) _ _ (k (loan_of r child p by variables))))
 
@@ -199,7 +199,7 @@ module _ {S : Type 0} (Excused : Stop S → Type 0) where
           agrees_if (are_twins r.kind loans) _ _ _ _ (inr refl)
           (agrees_then _ _ _ _ (agrees_producing ev eu vars producer variables loans h c state) (λ values after. h consumer (bound vars values variables) after d))
 
-      -- ---- local objects
+      -- ---- local stobjs
 
       agrees_fresh : (ev eu : Evaluator S) (x : ℕ) (l : Option (StobjList S)) (producer : Core) (variables : Variables S) → EvAgrees ev eu → Closed Stands producer → ToAgrees (with_fresh r ev x l producer variables) (with_fresh later_rules eu x l producer variables)
       agrees_fresh ev eu x None producer variables h c state = refl
@@ -223,9 +223,9 @@ module _ {S : Type 0} (Excused : Stop S → Type 0) where
           agrees_then _ _ _ _ (h form variables state c.0) (λ values after. h body (bound names values variables) after c.1)
       agrees_opened ev eu h (StobjLet names forms vars producer consumer) variables state c =
           agrees_all_borrowed names forms variables [] _ _ c.0 (λ loans. agrees_with_loans ev eu vars producer consumer variables loans h c.1 c.2) state
-      agrees_opened ev eu h (WithLocal object names producer body) variables state c =
-          rw (g.freshly object c.0)
-          (agrees_then _ _ _ _ (agrees_counting state _ _ (agrees_fresh ev eu object (r.fresh object) producer variables h c.1))
+      agrees_opened ev eu h (WithLocal stobj names producer body) variables state c =
+          rw (g.freshly stobj c.0)
+          (agrees_then _ _ _ _ (agrees_counting state _ _ (agrees_fresh ev eu stobj (r.fresh stobj) producer variables h c.1))
           (λ values after. h body (bound names values variables) after c.2))
       agrees_opened ev eu h (MustBeEqual logic exec) variables state c = h logic variables state c
       agrees_opened ev eu h (Call f actuals) variables state c =

@@ -14,7 +14,7 @@ use Rattle.model_prims.specs.Applied as prims
 use Rattle.model_prims.specs.declared.prim.Prim.{Prim}
 use Rattle.model_terms.specs.Worlds.{World, FunctionOfAbstract}
 use Rattle.model_eval.specs.Outcomes.{Shown, Steps, State, Outcome, Gives, Stops, Unknown, one_more_call, stops_here, Stobjs}
-use Rattle.model_eval.specs.Scopes.{ordinary}
+use Rattle.model_eval.specs.Variables.{ordinary}
 use Rattle.model_eval.specs.ListsKeeping.{lists_keeping}
 use Rattle.model_eval.specs.Checked.{checked_rules, checked_export, primitive_ended, inside_after}
 use Rattle.model_eval_laws.specs.Counting.{Grown, Counts, CountsCalls}

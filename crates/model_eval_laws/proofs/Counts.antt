@@ -8,18 +8,18 @@ use Rattle.std.proofs.lemmas.Bool.Decides.{nat_tests}
 use Rattle.model_symbols.specs.Symbols.{QualifiedName}
 use Rattle.model_prims.specs.declared.prim.Prim.{Prim}
 use Rattle.model_lists.specs.Lists.{StobjList, item}
-use Rattle.model_lists.specs.Generated.{Effect, Refuses, Reads, Writes}
+use Rattle.model_lists.specs.Effects.{Effect, Refuses, Reads, Writes}
 use Rattle.model_terms.specs.Cores.{Core, Cores, Reached, Var, Const, If, Let, Mv, MvLet, StobjLet, WithLocal, MustBeEqual, Call, none, more, reached}
 use Rattle.model_terms.specs.Worlds.{Definition, FunctionOfAbstract, definition, Primitive, Defined, Macro, Constant, Concrete, Generated, Abstract, OfAbstract, Named, Signed}
 use Rattle.model_terms.specs.declared.role.AbstractRole.{AbstractRole}
 use Rattle.model_terms.specs.declared.role.AbstractRole.TheVariants as abstract_role
-use Rattle.model_eval.specs.Outcomes.{Shown, Plain, Stobj, Guard, Steps, Depth, Stobjs, State, Outcome, Gives, Stops, Unknown, then_with, with_state, cut_at, one_more_call, counting, stops_here}
-use Rattle.model_eval.specs.Scopes.{Variables, variable_in, bound, single, inner_variables, list_of}
-use Rattle.model_eval.specs.Generated.{effected}
-use Rattle.model_eval.specs.Children.{Loan, is_reached, loan_values, indices, are_twins, put_into_parent}
+use Rattle.model_eval.specs.Outcomes.{Shown, Plain, StobjNamed, Guard, Steps, Depth, Stobjs, State, Outcome, Gives, Stops, Unknown, then_with, with_state, cut_at, one_more_call, counting, stops_here}
+use Rattle.model_eval.specs.Variables.{Variables, variable_in, bound, single, inner_variables, list_of}
+use Rattle.model_eval.specs.GeneratedCalls.{effected}
+use Rattle.model_eval.specs.Lending.{Loan, is_reached, loan_values, indices, are_twins, put_into_parent}
 use Rattle.model_eval.specs.ListsKeeping.{lists_keeping, inner_state, back, returned}
-use Rattle.model_eval.specs.Evaluated.{Rules, Evaluator, is_false, scoped, guarded, of_abstract, by_definition, exec_called, called, in_order, leaf, leaf_or, loan_of, borrowing, borrowed_from, borrowed, all_borrowed, put_back, lending, loaned_variables, producing, with_loans, with_fresh, opened, evaluated, stobj_let_word}
-use Rattle.model_eval_laws.specs.Counting.{Grown, Counts, HasObjects}
+use Rattle.model_eval.specs.Evaluated.{Rules, Evaluator, is_false, scoped, with_guard, of_abstract, by_definition, exec_called, called, in_order, leaf, leaf_or, loan_of, borrowing, borrowed_from, borrowed, all_borrowed, put_back, lending, loaned_variables, producing, with_loans, with_fresh, opened, evaluated, stobj_let_word}
+use Rattle.model_eval_laws.specs.Counting.{Grown, Counts, HasStobjs}
 
 pub longer_then : (a b c : List QualifiedName) → (xs : List QualifiedName) × (b ≡ a ++ xs) → (ys : List QualifiedName) × (c ≡ b ++ ys) → (zs : List QualifiedName) × (c ≡ a ++ zs)
 longer_then a b c x y = (x.0 ++ y.0, y.1 ∙ (ap (λ (l : List QualifiedName). l ++ y.0) x.1 ∙ append_assoc a x.0 y.0))
@@ -114,12 +114,12 @@ module _ {S : Type 0} (limit : ℕ) where
   -- ---- lists
 
   abbrev pub Stays : State S → Outcome S → Type 0
-  Stays a r = limit ≤ a.calls → HasObjects a.stobjs r
+  Stays a r = limit ≤ a.calls → HasStobjs a.stobjs r
 
   stays_then : (a : State S) (r : Outcome S) (go : List (Shown S) → State S → Outcome S) → Counts limit a r → Stays a r → ((values : List (Shown S)) (s : State S) → Stays s (go values s)) → Stays a (then_with r go)
   stays_then a (Gives values s) go c h k q = moved (go values s) (k values s (omega (arith, c.calls, q)))
     where
-      moved : (r : Outcome S) → HasObjects s.stobjs r → HasObjects a.stobjs r
+      moved : (r : Outcome S) → HasStobjs s.stobjs r → HasStobjs a.stobjs r
       moved (Gives values' s') e = e ∙ h q
       moved (Stops stop origin s') e = e ∙ h q
       moved Unknown e = tt
@@ -130,7 +130,7 @@ module _ {S : Type 0} (limit : ℕ) where
   stays_counting : (a : State S) (go : State S → Outcome S) → Stays a (counting limit a go)
   stays_counting a go q = by_test (nat_lt a.calls limit) refl
     where
-      by_test : (b : Bool) → nat_lt a.calls limit ≡ b → HasObjects a.stobjs (if b then go (one_more_call a) else stops_here Steps a)
+      by_test : (b : Bool) → nat_lt a.calls limit ≡ b → HasStobjs a.stobjs (if b then go (one_more_call a) else stops_here Steps a)
       by_test true e = absurd (let l : a.calls < limit = ltb-true a.calls limit e in omega arith)
       by_test false e = refl
 
@@ -162,7 +162,7 @@ module _ {S : Type 0} (r : Rules S) where
     counts_scoped ev formals values form h state =
         counts_back r.limit formals values state _ (h form (inner_variables formals values) (inner_state formals values state))
 
-    pub counts_guarded : (ev : Evaluator S) (name : ℕ) (formals : List ℕ) (guard : Core) (values : List (Shown S)) (go : State S → Outcome S) → EvCounts ev → GoCounts r.limit go → GoCounts r.limit (guarded r ev name formals guard values go)
+    pub counts_guarded : (ev : Evaluator S) (name : ℕ) (formals : List ℕ) (guard : Core) (values : List (Shown S)) (go : State S → Outcome S) → EvCounts ev → GoCounts r.limit go → GoCounts r.limit (with_guard r ev name formals guard values go)
     counts_guarded ev name formals guard values go h k state =
         counts_then r.limit state _ _ (counts_scoped ev formals values guard h state)
         (λ test after. counts_if r.limit after (is_false r test) _ _ (stopped after name values) (k after))
@@ -229,7 +229,7 @@ module _ {S : Type 0} (r : Rules S) where
 
     pub counts_borrowed_from : (child : ℕ) (by : Reached) (p : Shown S) (variables : Variables S) (go : Loan S → State S → Outcome S) → ((loan : Loan S) → GoCounts r.limit (go loan)) → GoCounts r.limit (borrowed_from r child by p variables go)
     counts_borrowed_from child by (Plain o) variables go k state = deep state
-    counts_borrowed_from child by (Stobj p) variables go k state =
+    counts_borrowed_from child by (StobjNamed p) variables go k state =
         let loan = loan_of r child p by variables in
         counts_counting r.limit state (borrowing r by.accessor loan (go loan))
         (λ after. counts_if r.limit after (is_reached loan.index (item loan.field (list_of after.stobjs loan.parent))) (go loan after) (stops_here (Guard by.accessor (loan_values loan)) after) (k loan after) (stopped after by.accessor (loan_values loan)))
@@ -240,7 +240,7 @@ module _ {S : Type 0} (r : Rules S) where
 
     stays_borrowed_from : (child : ℕ) (by : Reached) (p : Shown S) (variables : Variables S) (go : Loan S → State S → Outcome S) (state : State S) → Stays r.limit state (borrowed_from r child by p variables go state)
     stays_borrowed_from child by (Plain o) variables go state = λ q. refl
-    stays_borrowed_from child by (Stobj p) variables go state =
+    stays_borrowed_from child by (StobjNamed p) variables go state =
         stays_counting r.limit state (borrowing r by.accessor (loan_of r child p by variables) (go (loan_of r child p by variables)))
 
     stays_borrowed : (child : ℕ) (by : Option Reached) (variables : Variables S) (go : Loan S → State S → Outcome S) (state : State S) → Stays r.limit state (borrowed r child by variables go state)
@@ -290,7 +290,7 @@ module _ {S : Type 0} (r : Rules S) where
         unchanged (Stops stop origin s) k q = k q
         unchanged Unknown k q = tt
 
-    -- ---- local objects
+    -- ---- local stobjs
 
     pub counts_fresh : (ev : Evaluator S) (x : ℕ) (l : Option (StobjList S)) (producer : Core) (variables : Variables S) → EvCounts ev → (m : StobjList S) × (l ≡ Some m) → GoCounts r.limit (with_fresh r ev x l producer variables)
     counts_fresh ev x None producer variables h e state = cc_none e.1
@@ -313,8 +313,8 @@ module _ {S : Type 0} (r : Rules S) where
         counts_then r.limit state _ _ (h form variables state) (λ values after. h body (bound names values variables) after)
     counts_opened ev h (StobjLet names forms vars producer consumer) variables state =
         counts_all_borrowed names forms variables [] _ (λ loans. counts_with_loans ev vars producer consumer variables loans h) state
-    counts_opened ev h (WithLocal object names producer body) variables state =
-        counts_then r.limit state _ _ (counts_counting r.limit state _ (counts_fresh ev object (r.fresh object) producer variables h (g.known object)))
+    counts_opened ev h (WithLocal stobj names producer body) variables state =
+        counts_then r.limit state _ _ (counts_counting r.limit state _ (counts_fresh ev stobj (r.fresh stobj) producer variables h (g.known stobj)))
         (λ values after. h body (bound names values variables) after)
     counts_opened ev h (MustBeEqual logic exec) variables state = h logic variables state
     counts_opened ev h (Call f actuals) variables state = counts_in_order ev actuals variables [] _ h (λ values. counts_called ev f values h) state
@@ -331,9 +331,9 @@ module _ {S : Type 0} (r : Rules S) where
         stays_then r.limit state _ _ (c form variables state) (h form variables state) (λ values after. h body (bound names values variables) after)
     stays_opened ev c h (StobjLet names forms vars producer consumer) variables state =
         stays_all_borrowed names forms variables [] _ (stays_without_loans ev vars producer consumer variables c h) state
-    stays_opened ev c h (WithLocal object names producer body) variables state =
-        stays_then r.limit state _ _ (counts_counting r.limit state _ (counts_fresh ev object (r.fresh object) producer variables c (g.known object)))
-        (stays_counting r.limit state (with_fresh r ev object (r.fresh object) producer variables)) (λ values after. h body (bound names values variables) after)
+    stays_opened ev c h (WithLocal stobj names producer body) variables state =
+        stays_then r.limit state _ _ (counts_counting r.limit state _ (counts_fresh ev stobj (r.fresh stobj) producer variables c (g.known stobj)))
+        (stays_counting r.limit state (with_fresh r ev stobj (r.fresh stobj) producer variables)) (λ values after. h body (bound names values variables) after)
     stays_opened ev c h (MustBeEqual logic exec) variables state = h logic variables state
     stays_opened ev c h (Call f actuals) variables state = stays_in_order ev actuals variables [] _ c h (λ values after. stays_called ev f values after) state
 

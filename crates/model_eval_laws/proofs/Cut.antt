@@ -8,11 +8,11 @@ use Rattle.model_terms.specs.Cores.{Core, Cores, Reached, Var, Const, If, Let, M
 use Rattle.model_terms.specs.Worlds.{Definition, FunctionOfAbstract, definition, Primitive, Defined, Macro, Constant, Concrete, Generated, Abstract, OfAbstract, Named, Signed}
 use Rattle.model_terms.specs.declared.role.AbstractRole.{AbstractRole}
 use Rattle.model_terms.specs.declared.role.AbstractRole.TheVariants as abstract_role
-use Rattle.model_eval.specs.Outcomes.{Shown, Plain, Stobj, Stop, Guard, Steps, Stobjs, State, Outcome, Gives, Stops, Unknown, then_with, with_state, cut_at, one_more_call, counting, stops_here}
-use Rattle.model_eval.specs.Scopes.{Variables, variable_in, bound, single, inner_variables, list_of}
-use Rattle.model_eval.specs.Children.{Loan, is_reached, loan_values, are_twins, put_into_parent}
+use Rattle.model_eval.specs.Outcomes.{Shown, Plain, StobjNamed, Stop, Guard, Steps, Stobjs, State, Outcome, Gives, Stops, Unknown, then_with, with_state, cut_at, one_more_call, counting, stops_here}
+use Rattle.model_eval.specs.Variables.{Variables, variable_in, bound, single, inner_variables, list_of}
+use Rattle.model_eval.specs.Lending.{Loan, is_reached, loan_values, are_twins, put_into_parent}
 use Rattle.model_eval.specs.ListsKeeping.{inner_state, outer_state, back, returned}
-use Rattle.model_eval.specs.Evaluated.{Rules, Evaluator, is_false, scoped, guarded, of_abstract, by_definition, exec_called, called, in_order, leaf, leaf_or, loan_of, borrowing, borrowed_from, borrowed, all_borrowed, put_back, lending, loaned_variables, producing, with_loans, with_fresh, opened, evaluated}
+use Rattle.model_eval.specs.Evaluated.{Rules, Evaluator, is_false, scoped, with_guard, of_abstract, by_definition, exec_called, called, in_order, leaf, leaf_or, loan_of, borrowing, borrowed_from, borrowed, all_borrowed, put_back, lending, loaned_variables, producing, with_loans, with_fresh, opened, evaluated}
 use Rattle.model_eval_laws.specs.Laws.{IsSteps}
 use Rattle.model_eval_laws.specs.Counting.{Counts}
 use Rattle.model_eval_laws.specs.Cutting.{Cuts}
@@ -111,7 +111,7 @@ module _ {S : Type 0} (r : Rules S) (limit : ℕ) (larger : r.limit ≤ limit) (
     cuts_scoped : (ev eu : Evaluator S) (formals : List ℕ) (values : List (Shown S)) (form : Core) → EvCuts ev eu → ToCuts limit (scoped r ev formals values form) (scoped longer_rules eu formals values form)
     cuts_scoped ev eu formals values form h state = cuts_back limit formals values state _ _ (h form (inner_variables formals values) (inner_state formals values state))
 
-    cuts_guarded : (ev eu : Evaluator S) (name : ℕ) (formals : List ℕ) (guard : Core) (values : List (Shown S)) (go to : State S → Outcome S) → EvCuts ev eu → ToCuts limit go to → GoCounts limit to → ToCuts limit (guarded r ev name formals guard values go) (guarded longer_rules eu name formals guard values to)
+    cuts_guarded : (ev eu : Evaluator S) (name : ℕ) (formals : List ℕ) (guard : Core) (values : List (Shown S)) (go to : State S → Outcome S) → EvCuts ev eu → ToCuts limit go to → GoCounts limit to → ToCuts limit (with_guard r ev name formals guard values go) (with_guard longer_rules eu name formals guard values to)
     cuts_guarded ev eu name formals guard values go to h k c state =
         cuts_then limit _ _ _ _ (cuts_scoped ev eu formals values guard h state)
         (λ test after. cuts_if limit (is_false r test) _ _ _ _ (inr refl) (k after))
@@ -165,7 +165,7 @@ module _ {S : Type 0} (r : Rules S) (limit : ℕ) (larger : r.limit ≤ limit) (
 
     cuts_borrowed_from : (child : ℕ) (by : Reached) (p : Shown S) (variables : Variables S) (go to : Loan S → State S → Outcome S) → ((loan : Loan S) → ToCuts limit (go loan) (to loan)) → ((loan : Loan S) → GoCounts limit (to loan)) → ToCuts limit (borrowed_from r child by p variables go) (borrowed_from longer_rules child by p variables to)
     cuts_borrowed_from child by (Plain o) variables go to k c state = inr refl
-    cuts_borrowed_from child by (Stobj p) variables go to k c state =
+    cuts_borrowed_from child by (StobjNamed p) variables go to k c state =
         let loan = loan_of r child p by variables in
         cuts_counting limit r.limit larger state (borrowing r by.accessor loan (go loan)) (borrowing longer_rules by.accessor loan (to loan))
         (λ after. cuts_if limit (is_reached loan.index (item loan.field (list_of after.stobjs loan.parent))) _ _ _ _ (k loan after) (inr refl))
@@ -232,9 +232,9 @@ module _ {S : Type 0} (r : Rules S) (limit : ℕ) (larger : r.limit ≤ limit) (
         cuts_all_borrowed names forms variables [] _ _
         (λ loans. cuts_with_loans ev eu vars producer consumer variables loans h c)
         (λ loans. counts_with_loans longer_rules g eu vars producer consumer variables loans c) state
-    cuts_opened ev eu h c (WithLocal object names producer body) variables state =
+    cuts_opened ev eu h c (WithLocal stobj names producer body) variables state =
         cuts_then limit _ _ _ _
-        (cuts_counting limit r.limit larger state _ _ (cuts_fresh ev eu object (r.fresh object) producer variables h) (counts_fresh longer_rules g eu object (r.fresh object) producer variables c (g.known object)))
+        (cuts_counting limit r.limit larger state _ _ (cuts_fresh ev eu stobj (r.fresh stobj) producer variables h) (counts_fresh longer_rules g eu stobj (r.fresh stobj) producer variables c (g.known stobj)))
         (λ values after. h body (bound names values variables) after) (λ values after. c body (bound names values variables) after)
     cuts_opened ev eu h c (MustBeEqual logic exec) variables state = h logic variables state
     cuts_opened ev eu h c (Call f actuals) variables state =

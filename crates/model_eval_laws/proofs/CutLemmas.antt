@@ -3,7 +3,7 @@ use Rattle.std.proofs.Common.{◌≡◌, ℕ, ◌≤◌, List, Bool, true, false
 use Rattle.std.specs.Prelude.{nat_lt, if◌then◌else◌}
 use Rattle.model_terms.specs.Worlds.{FunctionOfAbstract}
 use Rattle.model_eval.specs.Outcomes.{Shown, Steps, State, Outcome, Gives, Stops, Unknown, one_more_call, stops_here, Stobjs}
-use Rattle.model_eval.specs.Scopes.{first_stobj}
+use Rattle.model_eval.specs.Variables.{first_stobj}
 use Rattle.model_eval.specs.ListsKeeping.{lists_keeping, list_restored}
 use Rattle.model_eval.specs.Checked.{checked_rules, checked_export, inside_after}
 use Rattle.model_eval_laws.specs.Counting.{Grown, Counts}

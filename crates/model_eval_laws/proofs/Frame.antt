@@ -1,4 +1,4 @@
--- An evaluation leaves the objects that no variable has.
+-- An evaluation leaves the stobjs that no variable has.
 use Rattle.std.proofs.Common.{◌≡◌, ℕ, zero, suc, List, [], ◌∷◌, ◌++◌, length, map, drop, Bool, true, false, Option, Some, None, refl, sym, ap, ◌∙◌, subst}
 use Rattle.std.specs.Prelude.{nat_lt, nat_eq, if◌then◌else◌}
 use Rattle.std.specs.List.{list_any}
@@ -6,18 +6,18 @@ use Rattle.std.proofs.lemmas.List.{append_assoc}
 use Rattle.model_prims.specs.declared.prim.Prim.{Prim}
 use Rattle.model_lists.specs.Lists.{StobjList, item}
 use Rattle.model_lists.specs.Layouts.{Layout}
-use Rattle.model_lists.specs.Generated.{Effect, Refuses, Reads, Writes}
+use Rattle.model_lists.specs.Effects.{Effect, Refuses, Reads, Writes}
 use Rattle.model_terms.specs.Cores.{Core, Cores, Reached, Var, Const, If, Let, Mv, MvLet, StobjLet, WithLocal, MustBeEqual, Call, none, more, reached}
 use Rattle.model_terms.specs.Worlds.{Definition, GeneratedFunction, FunctionOfAbstract, definition, Primitive, Defined, Macro, Constant, Concrete, Generated, Abstract, OfAbstract, Named, Signed}
 use Rattle.model_terms.specs.declared.role.AbstractRole.{AbstractRole}
 use Rattle.model_terms.specs.declared.role.AbstractRole.TheVariants as abstract_role
-use Rattle.model_eval.specs.Outcomes.{Shown, Plain, Stobj, Stop, Guard, Steps, Depth, Stobjs, State, Outcome, Gives, Stops, Unknown, then_with, with_state, cut_at, one_more_call, counting, stops_here}
-use Rattle.model_eval.specs.Scopes.{Variables, variable_in, bound, single, first_stobj, list_of, inner_variables, inner_stobjs, outer_value}
-use Rattle.model_eval.specs.Worlds.{stobj_layout}
-use Rattle.model_eval.specs.Generated.{effected, generated}
-use Rattle.model_eval.specs.Children.{Loan, is_reached, are_twins, lent, put_into_parent}
+use Rattle.model_eval.specs.Outcomes.{Shown, Plain, StobjNamed, Stop, Guard, Steps, Depth, Stobjs, State, Outcome, Gives, Stops, Unknown, then_with, with_state, cut_at, one_more_call, counting, stops_here}
+use Rattle.model_eval.specs.Variables.{Variables, variable_in, bound, single, first_stobj, list_of, inner_variables, inner_stobjs, outer_value}
+use Rattle.model_eval.specs.StobjLayouts.{stobj_layout}
+use Rattle.model_eval.specs.GeneratedCalls.{effected, generated}
+use Rattle.model_eval.specs.Lending.{Loan, is_reached, are_twins, lent, put_into_parent}
 use Rattle.model_eval.specs.ListsKeeping.{lists_keeping, inner_state, back, all_put, without_innermost, returned}
-use Rattle.model_eval.specs.Evaluated.{Rules, Evaluator, is_false, scoped, guarded, of_abstract, by_definition, exec_called, called, in_order, leaf, leaf_or, loan_of, borrowing, borrowed_from, borrowed, all_borrowed, put_back, lending, loaned_variables, producing, with_loans, with_fresh, opened, evaluated}
+use Rattle.model_eval.specs.Evaluated.{Rules, Evaluator, is_false, scoped, with_guard, of_abstract, by_definition, exec_called, called, in_order, leaf, leaf_or, loan_of, borrowing, borrowed_from, borrowed, all_borrowed, put_back, lending, loaned_variables, producing, with_loans, with_fresh, opened, evaluated}
 use Rattle.model_eval_laws.specs.Scope.{names, is_among, InScope, AllInScope, widened, HasNames}
 use Rattle.model_eval_laws.proofs.Lists.{same_number, among_first, ValuesIn, variables_more, scope_variable, scope_bound, values_append, values_plain, list_widened, write_widened, names_write, handed_widened, back_widened, names_back, scope_inner, values_outer, OptionIn, scope_first, option_widened, children, LoansIn, KidsIn, loans_append, kids_in, lent_widened, names_append, names_lent, put_widened, names_put, all_put_widened, names_all_put, drop_widened, names_drop, length_children}
 
@@ -28,7 +28,7 @@ HasValues ns (Stops stop origin state) = Unit {0}
 HasValues ns Unknown = Unit {0}
 
 module _ {S : Type 0} (others : Stobjs S) where
-  -- an outcome of the objects with these names, and what comes with more objects
+  -- an outcome of the stobjs with these names, and what comes with more stobjs
   pub record Loose (ns : List ℕ) (r s : Outcome S) : Type 0 where
     pub same : s ≡ with_state (widened others) r
     pub kept : HasNames ns r
@@ -38,7 +38,7 @@ module _ {S : Type 0} (others : Stobjs S) where
     pub kept : HasNames ns r
     pub values : HasValues ns r
 
-  -- what the second does with more objects
+  -- what the second does with more stobjs
   abbrev pub ToFramed : List ℕ → (State S → Outcome S) → (State S → Outcome S) → Type 0
   ToFramed ns go to = (state : State S) → names state.stobjs ≡ ns → Framed ns (go state) (to (widened others state))
 
@@ -137,7 +137,7 @@ module _ {S : Type 0} (others : Stobjs S) where
           rw (same_inner ns formals values state e v)
           (framed_back ns formals values state (ev form (inner_variables formals values) (inner_state formals values state)) e v inner.kept inner.values)
 
-      framed_guarded : (ev : Evaluator S) (ns : List ℕ) (name : ℕ) (formals : List ℕ) (guard : Core) (values : List (Shown S)) (go to : State S → Outcome S) → EvFramed ev → ValuesIn ns values → ToFramed ns go to → ToFramed ns (guarded r ev name formals guard values go) (guarded r ev name formals guard values to)
+      framed_guarded : (ev : Evaluator S) (ns : List ℕ) (name : ℕ) (formals : List ℕ) (guard : Core) (values : List (Shown S)) (go to : State S → Outcome S) → EvFramed ev → ValuesIn ns values → ToFramed ns go to → ToFramed ns (with_guard r ev name formals guard values go) (with_guard r ev name formals guard values to)
       framed_guarded ev ns name formals guard values go to h v k state e =
           framed_to ns _ _ _ _ (loosely ns _ _ (framed_scoped ev ns formals values guard h v state e))
           (λ test after q. framed_if ns (is_false r test) _ _ _ _ (framed_stop ns (Guard name values) after q) (k after q))
@@ -157,7 +157,7 @@ module _ {S : Type 0} (others : Stobjs S) where
       framed_effected ns f values None state (Writes l) e i = framed_stop ns _ state e
       framed_effected ns f values (Some x) state (Writes l) e i =
           record {
-            same = ap (λ (os : Stobjs S). Gives (Stobj x ∷ []) (record state { stobjs = os })) (write_widened x l state.stobjs others (ap (is_among x) e ∙ i));
+            same = ap (λ (os : Stobjs S). Gives (StobjNamed x ∷ []) (record state { stobjs = os })) (write_widened x l state.stobjs others (ap (is_among x) e ∙ i));
             kept = names_write x l state.stobjs ∙ e;
             values = (i, tt);
           }
@@ -176,7 +176,7 @@ module _ {S : Type 0} (others : Stobjs S) where
       framed_definition ev ns go (Some (Macro f formals body)) name values h v k state e = framed_stop ns _ state e
       framed_definition ev ns go (Some (Constant f value)) name values h v k state e = framed_stop ns _ state e
       framed_definition ev ns go (Some (Concrete d class)) name values h v k state e = framed_stop ns _ state e
-      framed_definition ev ns go (Some (Generated f)) name values h v k state e = framed_generated ns f (stobj_layout r.see r.world f.object) values v state e
+      framed_definition ev ns go (Some (Generated f)) name values h v k state e = framed_generated ns f (stobj_layout r.see r.world f.stobj) values v state e
       framed_definition ev ns go (Some (Abstract d)) name values h v k state e = framed_stop ns _ state e
       framed_definition ev ns go (Some (OfAbstract f)) name values h v k state e = k f state e
       framed_definition ev ns go (Some (Named f formals)) name values h v k state e = framed_stop ns _ state e
@@ -215,7 +215,7 @@ module _ {S : Type 0} (others : Stobjs S) where
 
       framed_borrowed_from : (ns : List ℕ) (child : ℕ) (by : Reached) (p : Shown S) (variables : Variables S) (go : Loan S → State S → Outcome S) → InScope ns p → ((loan : Loan S) → is_among loan.parent ns ≡ true → GoFramed ns (go loan)) → GoFramed ns (borrowed_from r child by p variables go)
       framed_borrowed_from ns child by (Plain o) variables go i k state e = framed_stop ns _ state e
-      framed_borrowed_from ns child by (Stobj p) variables go i k state e =
+      framed_borrowed_from ns child by (StobjNamed p) variables go i k state e =
           let loan = loan_of r child p by variables in
           framed_counting ns r.limit (borrowing r by.accessor loan (go loan)) (framed_borrowing ns by.accessor loan (go loan) i (k loan i)) state e
 
@@ -295,7 +295,7 @@ module _ {S : Type 0} (others : Stobjs S) where
           (framed_then ns _ _ _ (loose_producing ev ns vars producer variables loans h a i state e)
           (λ values after q. h consumer (bound vars values variables) ns (scope_bound ns vars values variables a) after q))
 
-      -- ---- local objects
+      -- ---- local stobjs
 
       loose_innermost : (ns : List ℕ) (x : ℕ) (a b : Outcome S) → Framed (x ∷ ns) a b → Loose ns (with_state (without_innermost 1) a) (with_state (without_innermost 1) b)
       loose_innermost ns x (Gives values state) b h =
@@ -314,7 +314,7 @@ module _ {S : Type 0} (others : Stobjs S) where
       loose_fresh ev ns x None producer variables h a state e = record { same = refl; kept = tt }
       loose_fresh ev ns x (Some l) producer variables h a state e =
           loose_innermost ns x _ _
-          (h producer ((x, Stobj x) ∷ variables) (x ∷ ns) (among_first x (x ∷ []) ns (rw (same_number x) refl), variables_more (x ∷ []) ns variables a)
+          (h producer ((x, StobjNamed x) ∷ variables) (x ∷ ns) (among_first x (x ∷ []) ns (rw (same_number x) refl), variables_more (x ∷ []) ns variables a)
           (record state { stobjs = (x, l) ∷ state.stobjs }) (ap (λ (ms : List ℕ). x ∷ ms) e))
 
       -- ---- forms
@@ -332,8 +332,8 @@ module _ {S : Type 0} (others : Stobjs S) where
           framed_then ns _ _ _ (loosely ns _ _ (h form variables ns a state e)) (λ values after q. h body (bound xs values variables) ns (scope_bound ns xs values variables a) after q)
       framed_opened ev h (StobjLet xs forms vars producer consumer) variables ns a state e =
           framed_all_borrowed ns xs forms variables [] _ a tt (λ loans i. framed_with_loans ev ns vars producer consumer variables loans h a i) state e
-      framed_opened ev h (WithLocal object xs producer body) variables ns a state e =
-          framed_then ns _ _ _ (loose_counting ns r.limit (with_fresh r ev object (r.fresh object) producer variables) (loose_fresh ev ns object (r.fresh object) producer variables h a) state e)
+      framed_opened ev h (WithLocal stobj xs producer body) variables ns a state e =
+          framed_then ns _ _ _ (loose_counting ns r.limit (with_fresh r ev stobj (r.fresh stobj) producer variables) (loose_fresh ev ns stobj (r.fresh stobj) producer variables h a) state e)
           (λ values after q. h body (bound xs values variables) ns (scope_bound ns xs values variables a) after q)
       framed_opened ev h (MustBeEqual logic exec) variables ns a state e = h logic variables ns a state e
       framed_opened ev h (Call f actuals) variables ns a state e =
@@ -353,7 +353,7 @@ module _ {S : Type 0} (others : Stobjs S) where
       scope_leaf (Mv parts) variables ns a v e = cc
       scope_leaf (MvLet xs form body) variables ns a v e = cc
       scope_leaf (StobjLet xs forms vars producer consumer) variables ns a v e = cc
-      scope_leaf (WithLocal object xs producer body) variables ns a v e = cc
+      scope_leaf (WithLocal stobj xs producer body) variables ns a v e = cc
       scope_leaf (MustBeEqual logic exec) variables ns a v e = cc
       scope_leaf (Call f actuals) variables ns a v e = cc
 

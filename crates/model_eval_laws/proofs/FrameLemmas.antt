@@ -1,4 +1,4 @@
--- The rules of checked evaluation leave other objects.
+-- The rules of checked evaluation leave other stobjs.
 use Rattle.std.proofs.Common.{◌≡◌, ℕ, List, [], ◌++◌, Bool, true, false, refl, sym, ap, ◌∙◌, subst}
 use Rattle.std.specs.Prelude.{nat_lt, if◌then◌else◌}
 use Rattle.model_symbols.specs.Symbols.{Package}
@@ -8,7 +8,7 @@ use Rattle.model_prims.specs.declared.prim.Prim.{Prim}
 use Rattle.model_terms.specs.Cores.{Core}
 use Rattle.model_terms.specs.Worlds.{World, FunctionOfAbstract}
 use Rattle.model_eval.specs.Outcomes.{Shown, Steps, Stobjs, State, Outcome, Gives, Stops, Unknown, inside_of, one_more_call, stops_here}
-use Rattle.model_eval.specs.Scopes.{Variables, ordinary, first_stobj}
+use Rattle.model_eval.specs.Variables.{Variables, ordinary, first_stobj}
 use Rattle.model_eval.specs.Checked.{checked, checked_rules, checked_export, primitive_ended, inside_after}
 use Rattle.model_eval.specs.ListsKeeping.{lists_keeping}
 use Rattle.model_eval_laws.specs.Scope.{names, AllInScope, widened, LeavesOthers}

@@ -10,8 +10,8 @@ use Rattle.model_terms.specs.Cores.{Core, Cores, Reached, Var, Const, If, Let, M
 use Rattle.model_terms.specs.Worlds.{World, Definition, Shape, Field, FunctionOfAbstract, definition, Primitive, Defined, Macro, Constant, Concrete, Generated, Abstract, OfAbstract, Named, Signed}
 use Rattle.model_terms.specs.Worlds as worlds
 use Rattle.model_eval.specs.Outcomes.{Shown, Stop, Steps, State, Outcome, Gives, Stops, Unknown, one_more_call, stops_here, Stobjs}
-use Rattle.model_eval.specs.Scopes.{Variables}
-use Rattle.model_eval.specs.Worlds.{stobj_layout, layout_within, shape_layout, fields_layout, defined_layout, most_nested}
+use Rattle.model_eval.specs.Variables.{Variables}
+use Rattle.model_eval.specs.StobjLayouts.{stobj_layout, layout_within, shape_layout, fields_layout, defined_layout, most_nested}
 use Rattle.model_eval.specs.Checked.{checked, checked_rules, checked_export, inside_after}
 use Rattle.model_eval.specs.ListsKeeping.{lists_keeping}
 use Rattle.model_eval_laws.specs.Agreement.{Agrees, ReachedStands, Closed, AllClosed, AllReached, ShapeStands, FieldsStand, ClosedDefinition, StandsIn, IsClosedWorld, HasGrown}
@@ -36,7 +36,7 @@ mutual
   closed_always (Mv parts) = all_closed_always parts
   closed_always (MvLet names form body) = (closed_always form, closed_always body)
   closed_always (StobjLet names forms vars producer consumer) = (all_reached_always forms, closed_always producer, closed_always consumer)
-  closed_always (WithLocal object names producer body) = (tt, closed_always producer, closed_always body)
+  closed_always (WithLocal stobj names producer body) = (tt, closed_always producer, closed_always body)
   closed_always (MustBeEqual logic exec) = closed_always logic
   closed_always (Call f actuals) = (tt, all_closed_always actuals)
 
@@ -52,8 +52,8 @@ shape_always : (s : Shape) → ShapeStands Always s
 shape_always (worlds.Scalar written initial) = tt
 shape_always (worlds.Array written initial length resizable) = tt
 shape_always (worlds.Hash test) = tt
-shape_always (worlds.Child object) = tt
-shape_always (worlds.Children object length) = tt
+shape_always (worlds.Child stobj) = tt
+shape_always (worlds.Children stobj length) = tt
 
 fields_always : (fs : List Field) → FieldsStand Always fs
 fields_always [] = tt
@@ -126,8 +126,8 @@ module _ (old new : World) (c : IsClosedWorld old) (g : HasGrown old new) where
     same_shape (worlds.Scalar written initial) h = refl
     same_shape (worlds.Array written initial length resizable) h = refl
     same_shape (worlds.Hash test) h = refl
-    same_shape (worlds.Child object) h = same object h
-    same_shape (worlds.Children object length) h = ap (layout.Children length) (same object h)
+    same_shape (worlds.Child stobj) h = same stobj h
+    same_shape (worlds.Children stobj length) h = ap (layout.Children length) (same stobj h)
 
     same_fields : (fs : List Field) → FieldsStand (StandsIn old) fs → fields_layout see one fs ≡ fields_layout see other fs
     same_fields [] h = refl

@@ -1,4 +1,4 @@
--- Lists of objects, and more objects behind them.
+-- Lists of stobjs, and more stobjs behind them.
 use Rattle.std.proofs.Common.{◌≡◌, ℕ, zero, suc, ◌+◌, ◌≤◌, List, [], ◌∷◌, ◌++◌, map, length, drop, Bool, true, false, Option, Some, None, refl, sym, ap, ◌∙◌, subst, arith}
 use Rattle.std.specs.Prelude.{nat_eq, ◌||◌, if◌then◌else◌}
 use Rattle.std.proofs.lemmas.Bool.Decides.{nat_tests}
@@ -6,10 +6,10 @@ use Rattle.std.proofs.lemmas.List.{drop-append-le, length-append}
 use Rattle.std.proofs.Math.Seq.{drop-append_seam}
 use Rattle.model_prims.specs.Kinds.{SymbolKind}
 use Rattle.model_lists.specs.Lists.{StobjList}
-use Rattle.model_eval.specs.Outcomes.{Shown, Plain, Stobj, Stobjs}
-use Rattle.model_eval.specs.Scopes.{Variables, variable_in, bound, list_of, with_list, inner_variables, inner_stobjs, handed_back, actual_for, outer_value, first_stobj, plain}
-use Rattle.model_eval.specs.Generated.{list_or_none}
-use Rattle.model_eval.specs.Children.{Loan, lent, put_into_parent, with_child}
+use Rattle.model_eval.specs.Outcomes.{Shown, Plain, StobjNamed, Stobjs}
+use Rattle.model_eval.specs.Variables.{Variables, variable_in, bound, list_of, with_list, inner_variables, inner_stobjs, handed_back, actual_for, outer_value, first_stobj, plain}
+use Rattle.model_eval.specs.GeneratedCalls.{list_or_none}
+use Rattle.model_eval.specs.Lending.{Loan, lent, put_into_parent, with_child}
 use Rattle.model_eval.specs.ListsKeeping.{lists_keeping, list_restored, all_put}
 use Rattle.model_eval_laws.specs.Scope.{names, is_among, InScope, AllInScope}
 
@@ -34,7 +34,7 @@ among_first x (m ∷ ms) ns e = go (nat_eq x m) (among_first x ms ns) e
     go true h e = refl
     go false h e = h e
 
--- an object, if it is one, is among these
+-- a stobj, if it is one, is among these
 abbrev pub OptionIn : List ℕ → Option ℕ → Type 0
 OptionIn ns None = Unit {0}
 OptionIn ns (Some x) = is_among x ns ≡ true
@@ -47,7 +47,7 @@ module _ {S : Type 0} where
 
   pub scope_more : (ms ns : List ℕ) (v : Shown S) → InScope ns v → InScope (ms ++ ns) v
   scope_more ms ns (Plain o) h = tt
-  scope_more ms ns (Stobj x) h = among_more x ms ns h
+  scope_more ms ns (StobjNamed x) h = among_more x ms ns h
 
   pub variables_more : (ms ns : List ℕ) (vs : Variables S) → AllInScope ns vs → AllInScope (ms ++ ns) vs
   variables_more ms ns [] h = tt
@@ -65,7 +65,7 @@ module _ {S : Type 0} where
   scope_bound ns [] values vs h = h
   scope_bound ns (x ∷ xs) [] vs h = h
   scope_bound ns (x ∷ xs) (Plain o ∷ values) vs h = (tt, scope_bound ns xs values vs h)
-  scope_bound ns (x ∷ xs) (Stobj y ∷ values) vs h = scope_bound ns xs values vs h
+  scope_bound ns (x ∷ xs) (StobjNamed y ∷ values) vs h = scope_bound ns xs values vs h
 
   pub values_append : (ns : List ℕ) (vs : List (Shown S)) (v : Shown S) → ValuesIn ns vs → InScope ns v → ValuesIn ns (vs ++ v ∷ [])
   values_append ns [] v h i = (i, tt)
@@ -108,13 +108,13 @@ module _ {S : Type 0} where
   handed_widened [] vs os more h = refl
   handed_widened (x ∷ xs) [] os more h = refl
   handed_widened (x ∷ xs) (Plain o ∷ vs) os more h = handed_widened xs vs os more h.1
-  handed_widened (x ∷ xs) (Stobj y ∷ vs) os more h = rw (list_widened os more y h.0, handed_widened xs vs os more h.1) refl
+  handed_widened (x ∷ xs) (StobjNamed y ∷ vs) os more h = rw (list_widened os more y h.0, handed_widened xs vs os more h.1) refl
 
   pub back_widened : (xs : List ℕ) (vs : List (Shown S)) (inner os more : Stobjs S) → ValuesIn (names os) vs → handed_back xs vs inner (os ++ more) ≡ handed_back xs vs inner os ++ more
   back_widened [] vs inner os more h = refl
   back_widened (x ∷ xs) [] inner os more h = refl
   back_widened (x ∷ xs) (Plain o ∷ vs) inner os more h = back_widened xs vs inner os more h.1
-  back_widened (x ∷ xs) (Stobj y ∷ vs) inner os more h =
+  back_widened (x ∷ xs) (StobjNamed y ∷ vs) inner os more h =
       rw (write_widened y (list_of inner x) os more h.0)
       (back_widened xs vs inner (with_list y (list_of inner x) os) more (subst (λ ns. ValuesIn ns vs) (sym (names_write y (list_of inner x) os)) h.1))
 
@@ -122,21 +122,21 @@ module _ {S : Type 0} where
   names_back [] vs inner os = refl
   names_back (x ∷ xs) [] inner os = refl
   names_back (x ∷ xs) (Plain o ∷ vs) inner os = names_back xs vs inner os
-  names_back (x ∷ xs) (Stobj y ∷ vs) inner os =
+  names_back (x ∷ xs) (StobjNamed y ∷ vs) inner os =
       names_back xs vs inner (with_list y (list_of inner x) os) ∙ names_write y (list_of inner x) os
 
   pub scope_inner : (xs : List ℕ) (vs : List (Shown S)) (os : Stobjs S) → AllInScope (names (inner_stobjs xs vs os)) (inner_variables xs vs)
   scope_inner [] vs os = tt
   scope_inner (x ∷ xs) [] os = tt
   scope_inner (x ∷ xs) (Plain o ∷ vs) os = (tt, scope_inner xs vs os)
-  scope_inner (x ∷ xs) (Stobj y ∷ vs) os =
+  scope_inner (x ∷ xs) (StobjNamed y ∷ vs) os =
       (among_first x (x ∷ []) _ (rw (same_number x) refl), variables_more (x ∷ []) _ (inner_variables xs vs) (scope_inner xs vs os))
 
   scope_actual : (ns xs : List ℕ) (vs : List (Shown S)) (os : Stobjs S) (x : ℕ) → ValuesIn ns vs → is_among x (names (inner_stobjs xs vs os)) ≡ true → is_among (actual_for xs vs x) ns ≡ true
   scope_actual ns [] vs os x h e = cc
   scope_actual ns (y ∷ ys) [] os x h e = cc
   scope_actual ns (y ∷ ys) (Plain o ∷ vs) os x h e = scope_actual ns ys vs os x h.1 e
-  scope_actual ns (y ∷ ys) (Stobj z ∷ vs) os x h e = go (nat_eq x y) (scope_actual ns ys vs os x h.1) e
+  scope_actual ns (y ∷ ys) (StobjNamed z ∷ vs) os x h e = go (nat_eq x y) (scope_actual ns ys vs os x h.1) e
     where
       go : (b : Bool) → (is_among x (names (inner_stobjs ys vs os)) ≡ true → is_among (actual_for ys vs x) ns ≡ true) → (b || is_among x (names (inner_stobjs ys vs os))) ≡ true
           → is_among (if b then z else actual_for ys vs x) ns ≡ true
@@ -145,18 +145,18 @@ module _ {S : Type 0} where
 
   scope_outer : (ns xs : List ℕ) (vs : List (Shown S)) (os : Stobjs S) (v : Shown S) → ValuesIn ns vs → InScope (names (inner_stobjs xs vs os)) v → InScope ns (outer_value xs vs v)
   scope_outer ns xs vs os (Plain o) h i = tt
-  scope_outer ns xs vs os (Stobj x) h i = scope_actual ns xs vs os x h i
+  scope_outer ns xs vs os (StobjNamed x) h i = scope_actual ns xs vs os x h i
 
   pub values_outer : (ns xs : List ℕ) (vs : List (Shown S)) (os : Stobjs S) (us : List (Shown S)) → ValuesIn ns vs → ValuesIn (names (inner_stobjs xs vs os)) us → ValuesIn ns (map (outer_value xs vs) us)
   values_outer ns xs vs os [] h i = tt
   values_outer ns xs vs os (u ∷ us) h i = (scope_outer ns xs vs os u h i.0, values_outer ns xs vs os us h i.1)
 
-  -- ---- one object
+  -- ---- one stobj
 
   pub scope_first : (ns : List ℕ) (vs : List (Shown S)) → ValuesIn ns vs → OptionIn ns (first_stobj vs)
   scope_first ns [] h = tt
   scope_first ns (Plain o ∷ vs) h = scope_first ns vs h.1
-  scope_first ns (Stobj x ∷ vs) h = h.0
+  scope_first ns (StobjNamed x ∷ vs) h = h.0
 
   pub option_widened : (k : SymbolKind S) (os more : Stobjs S) (x : Option ℕ) → OptionIn (names os) x → list_or_none lists_keeping (os ++ more) x ≡ list_or_none lists_keeping os x
   option_widened k os more None h = refl
@@ -224,7 +224,7 @@ module _ {S : Type 0} where
   names_all_put [] os = refl
   names_all_put (l ∷ ls) os = names_all_put ls (put_into_parent l os) ∙ names_put l os
 
-  -- ---- the innermost objects
+  -- ---- the innermost stobjs
 
   length_names : (os : Stobjs S) → length os ≡ length (names os)
   length_names [] = refl

@@ -2,7 +2,7 @@
 use Rattle.std.proofs.Common.{◌≡◌, ℕ, zero, suc, ◌+◌, [], ◌∷◌, Some, None, ap, add-one}
 use Rattle.model_terms.specs.Cores.{Core}
 use Rattle.model_eval.specs.Outcomes.{Shown, Depth, State, Gives, stops_here}
-use Rattle.model_eval.specs.Scopes.{Variables}
+use Rattle.model_eval.specs.Variables.{Variables}
 use Rattle.model_eval.specs.Evaluated.{Rules, leaf, leaf_or, opened, evaluated}
 use Rattle.model_eval.specs.Checked.{checked_rules}
 use Rattle.model_eval_laws.specs.Opening.{OpensForms}

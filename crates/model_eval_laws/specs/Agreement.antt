@@ -15,7 +15,7 @@ Agrees Excused Unknown r = r ≡ Unknown
 
 -- ---- names that a form needs
 
--- each name that is called, borrowed by or made a local object in the form stands
+-- each name that is called, borrowed by or made a local stobj in the form stands
 module _ (Stands : ℕ → Type 0) where
   abbrev pub ReachedStands : Option Reached → Type 0
   ReachedStands None = Unit {0}
@@ -30,7 +30,7 @@ module _ (Stands : ℕ → Type 0) where
     Closed (Mv parts) = AllClosed parts
     Closed (MvLet names form body) = Closed form × Closed body
     Closed (StobjLet names forms vars producer consumer) = AllReached forms × Closed producer × Closed consumer
-    Closed (WithLocal object names producer body) = Stands object × Closed producer × Closed body
+    Closed (WithLocal stobj names producer body) = Stands stobj × Closed producer × Closed body
     Closed (MustBeEqual logic exec) = Closed logic
     Closed (Call f actuals) = Stands f × AllClosed actuals
 
@@ -42,13 +42,13 @@ module _ (Stands : ℕ → Type 0) where
     AllReached none = Unit {0}
     AllReached (more form forms) = ReachedStands (reached form) × AllReached forms
 
-  -- the same of the objects that are children
+  -- the same of the stobjs that are children
   abbrev pub ShapeStands : Shape → Type 0
   ShapeStands (worlds.Scalar written initial) = Unit {0}
   ShapeStands (worlds.Array written initial length resizable) = Unit {0}
   ShapeStands (worlds.Hash test) = Unit {0}
-  ShapeStands (worlds.Child object) = Stands object
-  ShapeStands (worlds.Children object length) = Stands object
+  ShapeStands (worlds.Child stobj) = Stands stobj
+  ShapeStands (worlds.Children stobj length) = Stands stobj
 
   abbrev pub FieldsStand : List Field → Type 0
   FieldsStand [] = Unit {0}
@@ -61,7 +61,7 @@ module _ (Stands : ℕ → Type 0) where
   ClosedDefinition (Macro name formals body) = Unit {0}
   ClosedDefinition (Constant name value) = Unit {0}
   ClosedDefinition (Concrete d class) = FieldsStand d.fields
-  ClosedDefinition (Generated g) = Stands g.object
+  ClosedDefinition (Generated g) = Stands g.stobj
   ClosedDefinition (Abstract d) = Stands d.foundation
   ClosedDefinition (OfAbstract f) = Closed f.guard × Stands f.exec
   ClosedDefinition (Named name formals) = Unit {0}

@@ -4,7 +4,7 @@ use Rattle.model_symbols.specs.Symbols.{QualifiedName, Package}
 use Rattle.model_terms.specs.Cores.{Core}
 use Rattle.model_terms.specs.Worlds.{World}
 use Rattle.model_eval.specs.Outcomes.{Stobjs, State, Outcome, Gives, Stops, Unknown}
-use Rattle.model_eval.specs.Scopes.{Variables}
+use Rattle.model_eval.specs.Variables.{Variables}
 use Rattle.model_eval.specs.Checked.{checked}
 use Rattle.model_eval_laws.specs.Laws.{IsSteps}
 
@@ -23,14 +23,14 @@ Counts limit old (Stops stop origin new) = Grown limit old new × (IsSteps stop 
 Counts limit old Unknown = ⊥
 
 -- an outcome has these lists
-abbrev pub HasObjects : {S : Type 0} → Stobjs S → Outcome S → Type 0
-HasObjects stobjs (Gives values state) = state.stobjs ≡ stobjs
-HasObjects stobjs (Stops stop origin state) = state.stobjs ≡ stobjs
-HasObjects stobjs Unknown = Unit {0}
+abbrev pub HasStobjs : {S : Type 0} → Stobjs S → Outcome S → Type 0
+HasStobjs stobjs (Gives values state) = state.stobjs ≡ stobjs
+HasStobjs stobjs (Stops stop origin state) = state.stobjs ≡ stobjs
+HasStobjs stobjs Unknown = Unit {0}
 
 pub record CountsCalls : Type 0 where
   pub counts : (w : World) (packages : List Package) (k d : ℕ) (form : Core) (variables : Variables ℕ) (state : State ℕ)
       → Counts k state (checked w packages k d form variables state)
   -- where no call is left, the lists are those of that moment
   pub cut : (w : World) (packages : List Package) (k d : ℕ) (form : Core) (variables : Variables ℕ) (state : State ℕ) → k ≤ state.calls
-      → HasObjects state.stobjs (checked w packages k d form variables state)
+      → HasStobjs state.stobjs (checked w packages k d form variables state)

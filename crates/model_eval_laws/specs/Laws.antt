@@ -4,7 +4,7 @@ use Rattle.model_symbols.specs.Symbols.{Package}
 use Rattle.model_terms.specs.Cores.{Core}
 use Rattle.model_terms.specs.Worlds.{World}
 use Rattle.model_eval.specs.Outcomes.{Stop, Guard, Steps, Depth, Range, Large, Symbols, State}
-use Rattle.model_eval.specs.Scopes.{Variables}
+use Rattle.model_eval.specs.Variables.{Variables}
 use Rattle.model_eval.specs.Checked.{checked}
 use Rattle.model_eval_laws.specs.Agreement.{Agrees, Closed, StandsIn, IsClosedWorld, HasGrown}
 

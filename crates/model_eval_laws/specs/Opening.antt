@@ -4,7 +4,7 @@ use Rattle.model_symbols.specs.Symbols.{Package}
 use Rattle.model_terms.specs.Cores.{Core}
 use Rattle.model_terms.specs.Worlds.{World}
 use Rattle.model_eval.specs.Outcomes.{Shown, Depth, State, Gives, stops_here}
-use Rattle.model_eval.specs.Scopes.{Variables}
+use Rattle.model_eval.specs.Variables.{Variables}
 use Rattle.model_eval.specs.Evaluated.{leaf, opened}
 use Rattle.model_eval.specs.Checked.{checked, checked_rules}
 

@@ -27,9 +27,9 @@ pub fn calls_are_counted()
     ensures { CountsCalls }
 {}
 
-/// An evaluation does not depend on the objects that no variable has, and leaves them as they are.
+/// An evaluation does not depend on the stobjs that no variable has, and leaves them as they are.
 #[tactic(auto, using(crate::proofs::FrameLemmas::leaves_others))]
-pub fn other_objects_are_left()
+pub fn other_stobjs_are_left()
     ensures { LeavesOthers }
 {}
 

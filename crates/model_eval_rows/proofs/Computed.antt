@@ -3,9 +3,9 @@ use Rattle.std.specs.Prelude.{refl}
 use Rattle.model_prims.specs.Guards.{guard, recognizer_guard, relation_guard, arithmetic_guard, listing_guard, naming_guard}
 use Rattle.model_prims.specs.Values.{wanted, recognized, related, computed, listed, named_by}
 use Rattle.model_prims.specs.Applied.{applied_to, bounded}
-use Rattle.model_lists.specs.Generated.{accessed, changed, lengthened, hash_read, hash_bound, hash_looked_up, hash_put, hash_removed}
-use Rattle.model_eval.specs.Worlds.{layout_within}
-use Rattle.model_eval.specs.Generated.{effect}
+use Rattle.model_lists.specs.Effects.{accessed, changed, lengthened, hash_read, hash_bound, hash_looked_up, hash_put, hash_removed}
+use Rattle.model_eval.specs.StobjLayouts.{layout_within}
+use Rattle.model_eval.specs.GeneratedCalls.{effect}
 use Rattle.model_eval.specs.Evaluated.{exec_called, called, in_order, all_borrowed, put_back, evaluated}
 use Rattle.model_eval_rows.specs.Books.{AreRight}
 use Rattle.model_eval_rows.specs.Counting.{counting_rows}
@@ -40,9 +40,9 @@ pub congruent : AreRight congruent_rows
 unfolding congruent_rows guard recognizer_guard relation_guard arithmetic_guard listing_guard naming_guard wanted recognized related computed listed named_by applied_to bounded accessed changed lengthened hash_read hash_bound hash_looked_up hash_put hash_removed layout_within effect exec_called called in_order all_borrowed put_back evaluated
 congruent = record { all = refl }
 
-pub abstract_objects : AreRight abstract_rows
+pub abstract_stobjs : AreRight abstract_rows
 unfolding abstract_rows guard recognizer_guard relation_guard arithmetic_guard listing_guard naming_guard wanted recognized related computed listed named_by applied_to bounded accessed changed lengthened hash_read hash_bound hash_looked_up hash_put hash_removed layout_within effect exec_called called in_order all_borrowed put_back evaluated
-abstract_objects = record { all = refl }
+abstract_stobjs = record { all = refl }
 
 pub types : TypesAreRight type_rows
 unfolding type_rows recognized

@@ -1,4 +1,4 @@
--- An abstract object: (defstobj st$c (val$c :type integer :initially 0)) is its foundation; `val` and `update-val` are exports,
+-- An abstract stobj: (defstobj st$c (val$c :type integer :initially 0)) is its foundation; `val` and `update-val` are exports,
 -- and `twice`, which runs (let ((st$c (update-val$c (val$c st$c) st$c))) (update-val$c v st$c)) with the guard (natp v).
 use Rattle.std.specs.Prelude.{ℕ, List, [], ◌∷◌, ◌++◌, Some, None}
 use Rattle.model_lists.specs.Lists.{StobjList}
@@ -8,8 +8,8 @@ use Rattle.model_terms.specs.Worlds as worlds
 use Rattle.model_terms.specs.declared.role.Role.TheVariants as role
 use Rattle.model_terms.specs.declared.role.AbstractRole.{AbstractRole}
 use Rattle.model_terms.specs.declared.role.AbstractRole.TheVariants as abstract_role
-use Rattle.model_eval.specs.Outcomes.{Shown, Plain, Stobj, Stop, Guard, Steps, Depth, Outcome, Gives, Stops}
-use Rattle.model_eval_rows.specs.Books.{Row, number, symbol, int, quoted, call, both_hold, always, numbers, primitives, function, generated, object, integer_field, origin, state, natp_word, integerp_word}
+use Rattle.model_eval.specs.Outcomes.{Shown, Plain, StobjNamed, Stop, Guard, Steps, Depth, Outcome, Gives, Stops}
+use Rattle.model_eval_rows.specs.Books.{Row, number, symbol, int, quoted, call, both_hold, always, numbers, primitives, function, generated, stobj, integer_field, origin, state, natp_word, integerp_word}
 
 abbrev st : ℕ
 st = 196
@@ -56,7 +56,7 @@ st_only = call stp (Var st ∷ [])
 abbrev export : ℕ → List ℕ → List worlds.Out → List worlds.Out → AbstractRole → Core → ℕ → Definition
 export name formals ins outs what guard exec = OfAbstract (record {
   name = name;
-  object = st;
+  stobj = st;
   role = what;
   formals = formals;
   signature = record { ins = ins; outs = outs };
@@ -80,7 +80,7 @@ value_and_foundation = Ordinary ∷ worlds.Stobj foundation ∷ []
 abbrev pub book : World
 book =
     primitives
-    ++ (object foundation (integer_field ∷ []) None foundation
+    ++ (stobj foundation (integer_field ∷ []) None foundation
     ∷ generated val_c foundation 0 role.Access (worlds.Stobj foundation ∷ []) (Ordinary ∷ [])
     ∷ generated update_val_c foundation 0 role.Update value_and_foundation (worlds.Stobj foundation ∷ [])
     ∷ function twice_c (v ∷ foundation ∷ []) value_and_foundation (worlds.Stobj foundation ∷ []) (call natp_word (Var v ∷ [])) twice_body
@@ -120,24 +120,24 @@ stops_outside stop cut after calls outer = Stops stop (origin None cut) (state (
 
 unfoldable pub abstract_rows : List Row
 abstract_rows =
-    run 1000 100 0 (call update_val (int 5 ∷ Var st ∷ [])) (gives_of (Stobj st ∷ []) 5 4 3)
+    run 1000 100 0 (call update_val (int 5 ∷ Var st ∷ [])) (gives_of (StobjNamed st ∷ []) 5 4 3)
     ∷ run 1000 100 5 (call val (Var st ∷ [])) (gives_of (Plain (number 5) ∷ []) 5 3 2)
     -- an export's guard is not inside it
-    ∷ run 1000 100 5 (call update_val (quoted a ∷ Var st ∷ [])) (stops_outside (Guard update_val (Plain (symbol a) ∷ Stobj st ∷ [])) 1 5 2 2)
+    ∷ run 1000 100 5 (call update_val (quoted a ∷ Var st ∷ [])) (stops_outside (Guard update_val (Plain (symbol a) ∷ StobjNamed st ∷ [])) 1 5 2 2)
     -- nor is the count of the exec function's call
     ∷ run 3 100 0 (call update_val (int 5 ∷ Var st ∷ [])) (stops_outside Steps 1 0 3 3)
     -- the exec function's guard is, and is named with the export's variable
-    ∷ run 1000 100 5 (call twice (quoted a ∷ Var st ∷ [])) (stops_inside (Guard twice_c (Plain (symbol a) ∷ Stobj st ∷ [])) twice 1 5 4 2)
+    ∷ run 1000 100 5 (call twice (quoted a ∷ Var st ∷ [])) (stops_inside (Guard twice_c (Plain (symbol a) ∷ StobjNamed st ∷ [])) twice 1 5 4 2)
     -- inside, and in the calls below with the exec function's own variable
     ∷ run 3 100 5 (call twice (int 6 ∷ Var st ∷ [])) (stops_inside Steps twice 1 5 3 2)
     ∷ run 6 100 5 (call twice (int 6 ∷ Var st ∷ [])) (stops_inside Steps twice 1 5 6 2)
-    ∷ run 1000 100 5 (call twice (int 6 ∷ Var st ∷ [])) (gives_of (Stobj st ∷ []) 6 7 2)
+    ∷ run 1000 100 5 (call twice (int 6 ∷ Var st ∷ [])) (gives_of (StobjNamed st ∷ []) 6 7 2)
     -- in the guard of the second export, the fourth outer call: the list is as the first left it
     ∷ run 9 100 5 (call outermost (int 6 ∷ Var st ∷ [])) (stops_outside Steps 4 6 9 4)
-    ∷ run 1000 100 5 (call outermost (int 6 ∷ Var st ∷ [])) (gives_of (Stobj st ∷ []) 6 12 6)
+    ∷ run 1000 100 5 (call outermost (int 6 ∷ Var st ∷ [])) (gives_of (StobjNamed st ∷ []) 6 12 6)
     -- the exec function opens nothing, its body's form does: with `twice` it is the third here
     ∷ run 1000 2 5 (call twice (int 6 ∷ Var st ∷ [])) (stops_inside Depth twice 1 5 4 2)
-    -- a local abstract object is new
+    -- a local abstract stobj is new
     ∷ run 1000 100 5
     (WithLocal st (x ∷ st ∷ []) (Mv (cores (call val (Var st ∷ []) ∷ Var st ∷ []))) (Var x))
     (gives_of (Plain (number 0) ∷ []) 5 4 3)

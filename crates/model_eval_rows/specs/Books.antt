@@ -111,17 +111,17 @@ function name formals ins outs guard body = Defined (record {
 
 -- a function of the field of this number
 abbrev pub generated : ℕ → ℕ → ℕ → Role → List Out → List Out → Definition
-generated name object field what ins outs = Generated (record {
+generated name stobj field what ins outs = Generated (record {
   name = name;
-  object = object;
+  stobj = stobj;
   field = Some field;
   role = what;
   signature = record { ins = ins; outs = outs };
 })
 
--- an object with its creator, where the rows need it
-abbrev pub created_object : ℕ → ℕ → List Shape → Option ℕ → ℕ → Definition
-created_object creator name shapes congruent_to class = Concrete (record {
+-- a stobj with its creator, where the rows need it
+abbrev pub created_stobj : ℕ → ℕ → List Shape → Option ℕ → ℕ → Definition
+created_stobj creator name shapes congruent_to class = Concrete (record {
   name = name;
   recognizer = 0;
   creator = creator;
@@ -129,8 +129,8 @@ created_object creator name shapes congruent_to class = Concrete (record {
   congruent_to = congruent_to;
 }) class
 
-abbrev pub object : ℕ → List Shape → Option ℕ → ℕ → Definition
-object name shapes congruent_to class = created_object 0 name shapes congruent_to class
+abbrev pub stobj : ℕ → List Shape → Option ℕ → ℕ → Definition
+stobj name shapes congruent_to class = created_stobj 0 name shapes congruent_to class
 
 -- a field of type `integer` with 0 at first
 abbrev pub integer_field : Shape
@@ -138,7 +138,7 @@ integer_field = Scalar (Symbol integer_word) (number 0)
 
 -- ---- rows
 
--- a form, evaluated with objects in scope, a limit of calls and a limit of open forms; and what it ends with
+-- a form, evaluated with stobjs in scope, a limit of calls and a limit of open forms; and what it ends with
 pub record Row : Type 0 where
   pub world : World
   pub limit : ℕ

@@ -4,8 +4,8 @@ use Rattle.model_terms.specs.Cores.{Core, Var, If, Let, Mv, WithLocal, cores}
 use Rattle.model_terms.specs.Worlds.{World, Ordinary}
 use Rattle.model_terms.specs.Worlds as worlds
 use Rattle.model_terms.specs.declared.role.Role.TheVariants as role
-use Rattle.model_eval.specs.Outcomes.{Plain, Stobj, Guard, Steps, Depth, Outcome}
-use Rattle.model_eval_rows.specs.Books.{Row, number, symbol, int, quoted, call, always, numbers, primitives, function, generated, created_object, integer_field, gives, stops, not_word, integerp_word, plus_word, minus_word, zp_word, natp_word}
+use Rattle.model_eval.specs.Outcomes.{Plain, StobjNamed, Guard, Steps, Depth, Outcome}
+use Rattle.model_eval_rows.specs.Books.{Row, number, symbol, int, quoted, call, always, numbers, primitives, function, generated, created_stobj, integer_field, gives, stops, not_word, integerp_word, plus_word, minus_word, zp_word, natp_word}
 
 abbrev pub st : ℕ
 st = 196
@@ -40,10 +40,10 @@ x = 203
 abbrev pub a : ℕ
 a = 204
 
--- the object and its functions
+-- the stobj and its functions
 abbrev pub counter : World
 counter =
-    created_object create_st st (integer_field ∷ []) None st
+    created_stobj create_st st (integer_field ∷ []) None st
     ∷ generated create_st st 0 role.Creator [] (worlds.Stobj st ∷ [])
     ∷ generated stp st 0 role.Recognizer (worlds.Stobj st ∷ []) (Ordinary ∷ [])
     ∷ generated pc st 0 role.Access (worlds.Stobj st ∷ []) (Ordinary ∷ [])
@@ -89,9 +89,9 @@ up_three = call up (int 3 ∷ Var st ∷ [])
 
 unfoldable pub counting_rows : List Row
 counting_rows =
-    run 1000000 2048 0 up_three (gives (Stobj st ∷ []) ((st, numbers (3 ∷ [])) ∷ []) 31)
+    run 1000000 2048 0 up_three (gives (StobjNamed st ∷ []) ((st, numbers (3 ∷ [])) ∷ []) 31)
     -- 31 calls are just enough
-    ∷ run 31 100 0 up_three (gives (Stobj st ∷ []) ((st, numbers (3 ∷ [])) ∷ []) 31)
+    ∷ run 31 100 0 up_three (gives (StobjNamed st ∷ []) ((st, numbers (3 ∷ [])) ∷ []) 31)
     -- one less stops at the last, when the field was written
     ∷ run 30 100 0 up_three (stops Steps ((st, numbers (3 ∷ [])) ∷ []) 30)
     -- of (up 1 st), the sixth call is that of `+`, and the seventh that of the updater
@@ -99,12 +99,12 @@ counting_rows =
     ∷ run 7 100 0 (call up (int 1 ∷ Var st ∷ [])) (stops Steps ((st, numbers (1 ∷ [])) ∷ []) 7)
     -- each call is inside the one before
     ∷ run 1000000 100 0 (call spin (int 1 ∷ [])) (stops Depth ((st, numbers (0 ∷ [])) ∷ []) 100)
-    -- a guard that fails, in a function and in a function of an object
-    ∷ run 1000000 100 4 (call up (quoted a ∷ Var st ∷ [])) (stops (Guard up (Plain (symbol a) ∷ Stobj st ∷ [])) ((st, numbers (4 ∷ [])) ∷ []) 2)
-    ∷ run 1000000 100 4 (call update_pc (quoted a ∷ Var st ∷ [])) (stops (Guard update_pc (Plain (symbol a) ∷ Stobj st ∷ [])) ((st, numbers (4 ∷ [])) ∷ []) 1)
+    -- a guard that fails, in a function and in a function of a stobj
+    ∷ run 1000000 100 4 (call up (quoted a ∷ Var st ∷ [])) (stops (Guard up (Plain (symbol a) ∷ StobjNamed st ∷ [])) ((st, numbers (4 ∷ [])) ∷ []) 2)
+    ∷ run 1000000 100 4 (call update_pc (quoted a ∷ Var st ∷ [])) (stops (Guard update_pc (Plain (symbol a) ∷ StobjNamed st ∷ [])) ((st, numbers (4 ∷ [])) ∷ []) 1)
     -- several values
-    ∷ run 1000000 100 4 (Mv (cores (call pc (Var st ∷ []) ∷ Var st ∷ []))) (gives (Plain (number 4) ∷ Stobj st ∷ []) ((st, numbers (4 ∷ [])) ∷ []) 1)
-    -- a local object leaves the object of its name, at a stop too
+    ∷ run 1000000 100 4 (Mv (cores (call pc (Var st ∷ []) ∷ Var st ∷ []))) (gives (Plain (number 4) ∷ StobjNamed st ∷ []) ((st, numbers (4 ∷ [])) ∷ []) 1)
+    -- a local stobj leaves the stobj of its name, at a stop too
     ∷ run 1000000 100 4 (call local (int 9 ∷ [])) (gives (Plain (number 9) ∷ []) ((st, numbers (4 ∷ [])) ∷ []) 5)
     ∷ run 4 100 4 (call local (int 9 ∷ [])) (stops Steps ((st, numbers (4 ∷ [])) ∷ []) 4)
     ∷ run 2 100 4 (call local (int 9 ∷ [])) (stops Steps ((st, numbers (4 ∷ [])) ∷ []) 2)

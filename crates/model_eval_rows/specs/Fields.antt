@@ -11,8 +11,8 @@ use Rattle.model_terms.specs.Worlds.{World, Ordinary}
 use Rattle.model_terms.specs.Worlds as worlds
 use Rattle.model_terms.specs.declared.role.Role.{Role}
 use Rattle.model_terms.specs.declared.role.Role.TheVariants as role
-use Rattle.model_eval.specs.Outcomes.{Plain, Stobj, Guard, Outcome}
-use Rattle.model_eval_rows.specs.Books.{Row, number, symbol, int, quoted, call, always, items, numbers, primitives, function, generated, object, gives, stops}
+use Rattle.model_eval.specs.Outcomes.{Plain, StobjNamed, Guard, Outcome}
+use Rattle.model_eval_rows.specs.Books.{Row, number, symbol, int, quoted, call, always, items, numbers, primitives, function, generated, stobj, gives, stops}
 
 abbrev pub st : ℕ
 st = 196
@@ -84,7 +84,7 @@ found = 217
 abbrev byte_type : Object ℕ
 byte_type = list_onto (Symbol unsigned_byte_word ∷ number 8 ∷ []) (Symbol nil)
 
--- a function that changes the object, of one more argument and of two, and one that reads it
+-- a function that changes the stobj, of one more argument and of two, and one that reads it
 abbrev writer : ℕ → ℕ → Role → worlds.Definition
 writer name field what = generated name st field what (Ordinary ∷ worlds.Stobj st ∷ []) (worlds.Stobj st ∷ [])
 
@@ -110,7 +110,7 @@ write_all_body = then_st (update 0 (int 1)) (then_st (update 1 (int 2)) (then_st
 abbrev pub book : World
 book =
     primitives
-    ++ (object st
+    ++ (stobj st
     (worlds.Array (Symbol integer_word) (number 0) 4 false ∷ worlds.Array byte_type (number 7) 0 true ∷ worlds.Hash Eql ∷ []) None st
     ∷ reader ai 0 role.Access
     ∷ writer_of_two update_ai 0 role.Update
@@ -132,7 +132,7 @@ book =
     ∷ function write_all (st ∷ []) (worlds.Stobj st ∷ []) (worlds.Stobj st ∷ []) always write_all_body
     ∷ [])
 
--- the object with these arrays and pairs
+-- the stobj with these arrays and pairs
 abbrev listed : List ℕ → List ℕ → List (Object ℕ × Object ℕ) → StobjList ℕ
 listed first second pairs = items (numbers first ∷ numbers second ∷ Pairs pairs ∷ [])
 
@@ -143,14 +143,14 @@ abbrev run : StobjList ℕ → Core → Outcome ℕ → Row
 run before form answer = record { world = book; limit = 1000; depth = 100; stobjs = (st, before) ∷ []; form = form; answer = answer }
 
 abbrev changes : StobjList ℕ → Core → StobjList ℕ → ℕ → Row
-changes before form after calls = run before form (gives (Stobj st ∷ []) ((st, after) ∷ []) calls)
+changes before form after calls = run before form (gives (StobjNamed st ∷ []) ((st, after) ∷ []) calls)
 
 abbrev value : StobjList ℕ → Core → Object ℕ → Row
 value before form o = run before form (gives (Plain o ∷ []) ((st, before) ∷ []) 1)
 
 abbrev refuses : StobjList ℕ → ℕ → List (Object ℕ) → Row
 refuses before f args =
-    run before (call f (map Const args ++ Var st ∷ [])) (stops (Guard f (map Plain args ++ Stobj st ∷ [])) ((st, before) ∷ []) 1)
+    run before (call f (map Const args ++ Var st ∷ [])) (stops (Guard f (map Plain args ++ StobjNamed st ∷ [])) ((st, before) ∷ []) 1)
 
 abbrev key : Object ℕ
 key = symbol k
@@ -166,7 +166,7 @@ no_value = symbol nil
 unfoldable pub array_rows : List Row
 array_rows =
     -- the updates before the one that is refused stay
-    run (listed zeros [] []) (call write_all (Var st ∷ [])) (stops (Guard update_ai (Plain (number 3) ∷ Plain (symbol x) ∷ Stobj st ∷ [])) ((st, listed (1 ∷ 2 ∷ 3 ∷ 0 ∷ []) [] []) ∷ []) 5)
+    run (listed zeros [] []) (call write_all (Var st ∷ [])) (stops (Guard update_ai (Plain (number 3) ∷ Plain (symbol x) ∷ StobjNamed st ∷ [])) ((st, listed (1 ∷ 2 ∷ 3 ∷ 0 ∷ []) [] []) ∷ []) 5)
     ∷ value (listed (1 ∷ 2 ∷ 3 ∷ 0 ∷ []) [] []) (call ai (int 2 ∷ Var st ∷ [])) (number 3)
     -- an index is a natural number below the length
     ∷ refuses (listed zeros [] []) ai (number 4 ∷ [])
@@ -191,7 +191,7 @@ array_rows =
     ∷ refuses (listed zeros [] []) resize_b (Integer (negsuc 0) ∷ [])
     ∷ refuses (listed zeros [] []) resize_b (symbol x ∷ [])
     ∷ refuses (listed zeros [] []) resize_a (number 4 ∷ [])
-    -- the recognizer of a field tests no length; an object in scope is one
+    -- the recognizer of a field tests no length; a stobj in scope is one
     ∷ value (listed zeros [] []) (call ap (Const (list_onto (number 5 ∷ number 300 ∷ []) no_value) ∷ [])) yes_value
     ∷ value (listed zeros [] []) (call bp (Const (list_onto (number 5 ∷ number 300 ∷ []) no_value) ∷ [])) no_value
     ∷ value (listed zeros [] []) (call ap (Const (list_onto (number 5 ∷ []) (number 6)) ∷ [])) no_value

@@ -15,8 +15,8 @@ use Rattle.model_terms.specs.Worlds.{World, Definition, Ordinary, Abstract, OfAb
 use Rattle.model_terms.specs.Worlds as worlds
 use Rattle.model_terms.specs.declared.role.Role.TheVariants as role
 use Rattle.model_terms.specs.declared.role.AbstractRole.TheVariants as abstract_role
-use Rattle.model_eval.specs.Outcomes.{Plain, Stobj, Stop, Guard, Steps, Range, Large, Outcome, Gives, Stops}
-use Rattle.model_eval_rows.specs.Books.{Row, number, symbol, int, quoted, call, both_hold, always, items, numbers, primitives, primitive, function, generated, object, integer_field, gives, stops, origin, state, car_word, cons_word, not_word, below_word, plus_word, minus_word, zp_word, natp_word}
+use Rattle.model_eval.specs.Outcomes.{Plain, StobjNamed, Stop, Guard, Steps, Range, Large, Outcome, Gives, Stops}
+use Rattle.model_eval_rows.specs.Books.{Row, number, symbol, int, quoted, call, both_hold, always, items, numbers, primitives, primitive, function, generated, stobj, integer_field, gives, stops, origin, state, car_word, cons_word, not_word, below_word, plus_word, minus_word, zp_word, natp_word}
 
 abbrev run : World → ℕ → List (ℕ × StobjList ℕ) → Core → Outcome ℕ → Row
 run world limit before form answer = record { world = world; limit = limit; depth = 2048; stobjs = before; form = form; answer = answer }
@@ -71,7 +71,7 @@ deep_c = 207
 abbrev exported : ℕ → List ℕ → Core → ℕ → Definition
 exported name formals guard exec = OfAbstract (record {
   name = name;
-  object = st;
+  stobj = st;
   role = abstract_role.Export;
   formals = formals;
   signature = record { ins = []; outs = [] };
@@ -94,7 +94,7 @@ deep_body = WithLocal st (x ∷ st ∷ []) (Let (st ∷ []) (cores (call put (Va
 abbrev exporting : World
 exporting =
     primitives
-    ++ (object foundation (integer_field ∷ []) None foundation
+    ++ (stobj foundation (integer_field ∷ []) None foundation
     ∷ generated val_c foundation 0 role.Access (worlds.Stobj foundation ∷ []) (Ordinary ∷ [])
     ∷ generated update_val_c foundation 0 role.Update value_and_foundation (worlds.Stobj foundation ∷ [])
     ∷ function slow_c (foundation ∷ []) (worlds.Stobj foundation ∷ []) (Ordinary ∷ []) always (call val_c (Var foundation ∷ []))
@@ -121,7 +121,7 @@ holding n = (st, numbers (n ∷ [])) ∷ []
 abbrev answers : ℕ → ℕ → Core → Outcome ℕ → Row
 answers limit f form answer = run exporting limit (holding 4) (call f (form ∷ Var st ∷ [])) answer
 
--- a stop in the first outer call, an export's, with the export that it is inside, the number that the object holds, all calls,
+-- a stop in the first outer call, an export's, with the export that it is inside, the number that the stobj holds, all calls,
 -- and those that no export made
 abbrev stopped : Stop ℕ → Option ℕ → ℕ → ℕ → ℕ → Outcome ℕ
 stopped stop inside after calls outer = Stops stop (origin inside 1) (state (holding after) calls outer)
@@ -129,17 +129,17 @@ stopped stop inside after calls outer = Stops stop (origin inside 1) (state (hol
 unfoldable pub export_rows : List Row
 export_rows =
     -- an export in the guard of another makes its own calls inside itself
-    answers 1000 checked_put (int 5) (Gives (Stobj st ∷ []) (state (holding 5) 5 3))
+    answers 1000 checked_put (int 5) (Gives (StobjNamed st ∷ []) (state (holding 5) 5 3))
     ∷ answers 2 checked_put (int 5) (stopped Steps None 4 2 2)
     ∷ answers 3 careful_put (int 5) (stopped Steps (Some slow) 4 3 2)
     -- after the guard's export, its guard's other calls are outside again
     ∷ answers 4 careful_put (int 5) (stopped Steps None 4 4 2)
     ∷ answers 5 careful_put (int 5) (stopped Steps None 4 5 3)
-    ∷ answers 1000 careful_put (int 5) (Gives (Stobj st ∷ []) (state (holding 5) 6 3))
-    -- a local object that is abstract, inside an exec function: the outermost export is named
-    ∷ answers 1000 deep (int 5) (Gives (Stobj st ∷ []) (state (holding 4) 5 1))
+    ∷ answers 1000 careful_put (int 5) (Gives (StobjNamed st ∷ []) (state (holding 5) 6 3))
+    -- a local stobj that is abstract, inside an exec function: the outermost export is named
+    ∷ answers 1000 deep (int 5) (Gives (StobjNamed st ∷ []) (state (holding 4) 5 1))
     ∷ answers 4 deep (int 5) (stopped Steps (Some deep) 4 4 1)
-    ∷ answers 1000 deep (quoted a) (stopped (Guard update_val_c (Plain (symbol a) ∷ Stobj st ∷ [])) (Some deep) 4 5 1)
+    ∷ answers 1000 deep (quoted a) (stopped (Guard update_val_c (Plain (symbol a) ∷ StobjNamed st ∷ [])) (Some deep) 4 5 1)
     ∷ []
 
 -- ---- children of children
@@ -165,9 +165,9 @@ par_of = 201
 abbrev family : World
 family =
     primitives
-    ++ (object kid (integer_field ∷ []) None kid
-    ∷ object par (worlds.Children kid 2 ∷ []) None par
-    ∷ object top (worlds.Child par ∷ []) None top
+    ++ (stobj kid (integer_field ∷ []) None kid
+    ∷ stobj par (worlds.Children kid 2 ∷ []) None par
+    ∷ stobj top (worlds.Child par ∷ []) None top
     ∷ generated update_kid kid 0 role.Update (Ordinary ∷ worlds.Stobj kid ∷ []) (worlds.Stobj kid ∷ [])
     ∷ generated ki par 0 role.Access (Ordinary ∷ worlds.Stobj par ∷ []) (worlds.Stobj kid ∷ [])
     ∷ generated par_of top 0 role.Access (worlds.Stobj top ∷ []) (worlds.Stobj par ∷ [])
@@ -185,7 +185,7 @@ write_kid =
 
 unfoldable pub family_rows : List Row
 family_rows =
-    run family 1000 (tree 0) write_kid (gives (Stobj top ∷ []) (tree 9) 5)
+    run family 1000 (tree 0) write_kid (gives (StobjNamed top ∷ []) (tree 9) 5)
     -- each list that was given last is in its parent
     ∷ run family 4 (tree 0) write_kid (stops Steps (tree 9) 4)
     ∷ run family 3 (tree 0) write_kid (stops Steps (tree 9) 3)
@@ -278,7 +278,7 @@ counted =
     ∷ primitive mod_word 2 (Arithmetic arithmetic.Mod)
     ∷ primitive consp_word 1 (Recognizer recognizer.Consp)
     ∷ primitive update_nth_word 3 (Listing listing.UpdateNth)
-    ∷ object st (worlds.Array (list_onto (Symbol unsigned_byte_word ∷ number 8 ∷ []) (Symbol nil)) (number 0) 50 false ∷ integer_field ∷ []) None st
+    ∷ stobj st (worlds.Array (list_onto (Symbol unsigned_byte_word ∷ number 8 ∷ []) (Symbol nil)) (number 0) 50 false ∷ integer_field ∷ []) None st
     ∷ generated si st 0 role.Access (Ordinary ∷ worlds.Stobj st ∷ []) (Ordinary ∷ [])
     ∷ generated update_si st 0 role.Update (Ordinary ∷ Ordinary ∷ worlds.Stobj st ∷ []) (worlds.Stobj st ∷ [])
     ∷ generated sum st 1 role.Access (worlds.Stobj st ∷ []) (Ordinary ∷ [])
@@ -302,7 +302,7 @@ greatest = Integer (pos (2 ^ 127 - 1))
 unfoldable pub counted_rows : List Row
 counted_rows =
     -- 28 calls for each of 50 numbers, less 13
-    run counted 1000000 (written (replicate 50 0) 0) (call put_range (int 0 ∷ int 50 ∷ Var st ∷ [])) (gives (Stobj st ∷ []) (written (from 50 0) 1225) 1387)
+    run counted 1000000 (written (replicate 50 0) 0) (call put_range (int 0 ∷ int 50 ∷ Var st ∷ [])) (gives (StobjNamed st ∷ []) (written (from 50 0) 1225) 1387)
     -- six calls for each, three at the end, and that of CONSP
     ∷ run counted 1000 [] (call consp_word (call dbl (int 8 ∷ []) ∷ [])) (gives (Plain (symbol truth) ∷ []) [] 52)
     -- the guard of what a guard calls

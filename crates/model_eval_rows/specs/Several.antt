@@ -1,4 +1,4 @@
--- Several objects and children: (defstobj kid (val :type integer :initially 0)),
+-- Several stobjs and children: (defstobj kid (val :type integer :initially 0)),
 -- (defstobj kid2 (val2 :type integer :initially 0) :congruent-to kid), (defstobj par (k :type (array kid (3))) (one :type kid)
 -- (m :type (array kid (2)))).
 use Rattle.std.specs.Prelude.{ℕ, List, [], ◌∷◌, ◌++◌, Some, None}
@@ -7,9 +7,9 @@ use Rattle.model_terms.specs.Cores.{Core, Var, Let, Mv, StobjLet, cores}
 use Rattle.model_terms.specs.Worlds.{World, Ordinary}
 use Rattle.model_terms.specs.Worlds as worlds
 use Rattle.model_terms.specs.declared.role.Role.TheVariants as role
-use Rattle.model_eval.specs.Outcomes.{Plain, Stobj, Guard, Steps, Depth, Outcome}
+use Rattle.model_eval.specs.Outcomes.{Plain, StobjNamed, Guard, Steps, Depth, Outcome}
 use Rattle.model_eval.specs.Evaluated.{stobj_let_word}
-use Rattle.model_eval_rows.specs.Books.{Row, number, symbol, int, quoted, call, both_hold, always, items, numbers, primitives, function, generated, object, integer_field, gives, stops, natp_word, below_word}
+use Rattle.model_eval_rows.specs.Books.{Row, number, symbol, int, quoted, call, both_hold, always, items, numbers, primitives, function, generated, stobj, integer_field, gives, stops, natp_word, below_word}
 
 abbrev pub kid : ℕ
 kid = 196
@@ -115,9 +115,9 @@ ordinary_and_par = Ordinary ∷ worlds.Stobj par ∷ []
 abbrev pub book : World
 book =
     primitives
-    ++ (object kid (integer_field ∷ []) None kid
-    ∷ object kid2 (integer_field ∷ []) (Some kid) kid
-    ∷ object par (worlds.Children kid 3 ∷ worlds.Child kid ∷ worlds.Children kid 2 ∷ []) None par
+    ++ (stobj kid (integer_field ∷ []) None kid
+    ∷ stobj kid2 (integer_field ∷ []) (Some kid) kid
+    ∷ stobj par (worlds.Children kid 3 ∷ worlds.Child kid ∷ worlds.Children kid 2 ∷ []) None par
     ∷ generated val kid 0 role.Access (worlds.Stobj kid ∷ []) (Ordinary ∷ [])
     ∷ generated update_val kid 0 role.Update (Ordinary ∷ worlds.Stobj kid ∷ []) (worlds.Stobj kid ∷ [])
     ∷ generated val2 kid2 0 role.Access (worlds.Stobj kid2 ∷ []) (Ordinary ∷ [])
@@ -155,19 +155,19 @@ call_two m n = call two (int m ∷ int n ∷ Var par ∷ [])
 
 unfoldable pub child_rows : List Row
 child_rows =
-    run 1000 100 new (call_two 0 1) (gives (Stobj par ∷ []) (family 0 0 (parent 1 2 0 0)) 11)
+    run 1000 100 new (call_two 0 1) (gives (StobjNamed par ∷ []) (family 0 0 (parent 1 2 0 0)) 11)
     -- one element twice: found once both accessors were counted
     ∷ run 1000 100 new (call_two 2 2) (stops (Guard stobj_let_word (Plain (number 2) ∷ Plain (number 2) ∷ [])) new 7)
     -- an index that is none: the first binding stops at once
-    ∷ run 1000 100 new (call spoil (int 3 ∷ Var par ∷ [])) (stops (Guard ki (Plain (number 3) ∷ Stobj par ∷ [])) new 2)
+    ∷ run 1000 100 new (call spoil (int 3 ∷ Var par ∷ [])) (stops (Guard ki (Plain (number 3) ∷ StobjNamed par ∷ [])) new 2)
     -- a producer that stops leaves what it changed in the parent
-    ∷ run 1000 100 new (call spoil (int 1 ∷ Var par ∷ [])) (stops (Guard update_val (Plain (symbol a) ∷ Stobj kid2 ∷ [])) (family 0 0 (parent 0 1 0 0)) 5)
+    ∷ run 1000 100 new (call spoil (int 1 ∷ Var par ∷ [])) (stops (Guard update_val (Plain (symbol a) ∷ StobjNamed kid2 ∷ [])) (family 0 0 (parent 0 1 0 0)) 5)
     -- the limit in the bindings, in the producer, while children are put back, and at the last of them
     ∷ run 6 100 new (call_two 0 1) (stops Steps new 6)
     ∷ run 8 100 new (call_two 0 1) (stops Steps (family 0 0 (parent 1 0 0 0)) 8)
     ∷ run 9 100 new (call_two 0 1) (stops Steps (family 0 0 (parent 1 2 0 0)) 9)
     ∷ run 10 100 new (call_two 0 1) (stops Steps (family 0 0 (parent 1 2 0 0)) 10)
-    ∷ run 11 100 new (call_two 0 1) (gives (Stobj par ∷ []) (family 0 0 (parent 1 2 0 0)) 11)
+    ∷ run 11 100 new (call_two 0 1) (gives (StobjNamed par ∷ []) (family 0 0 (parent 1 2 0 0)) 11)
     -- a child that is not among the variables is not put back
     ∷ run 1000 100 (family 5 6 (parent 1 2 0 0)) (call peek (int 1 ∷ Var par ∷ [])) (gives (Plain (number 2) ∷ []) (family 5 6 (parent 1 2 0 0)) 5)
     -- three forms are open at once; an accessor opens none
@@ -178,17 +178,17 @@ child_rows =
     ∷ run 1000 100 new
     (StobjLet (kid ∷ kid2 ∷ []) (cores (call ki (int 1 ∷ Var par ∷ []) ∷ call mi (int 1 ∷ Var par ∷ []) ∷ [])) (kid ∷ kid2 ∷ [])
     (Let (kid ∷ []) (cores (set_val kid (int 4) ∷ [])) (Mv (cores (Var kid ∷ Var kid2 ∷ [])))) (Var par))
-    (gives (Stobj par ∷ []) (family 0 0 (parent 0 4 0 0)) 5)
+    (gives (StobjNamed par ∷ []) (family 0 0 (parent 0 4 0 0)) 5)
     ∷ run 1000 100 new (call k_length (Var par ∷ [])) (gives (Plain (number 3) ∷ []) new 1)
-    ∷ run 1000 100 new (call resize_k (int 3 ∷ Var par ∷ [])) (stops (Guard resize_k (Plain (number 3) ∷ Stobj par ∷ [])) new 1)
+    ∷ run 1000 100 new (call resize_k (int 3 ∷ Var par ∷ [])) (stops (Guard resize_k (Plain (number 3) ∷ StobjNamed par ∷ [])) new 1)
     ∷ []
 
 -- (both kid2 kid) on 0 and 5: the formals are the other way round
 unfoldable pub congruent_rows : List Row
 congruent_rows =
-    run 1000 100 (family 0 0 End) (call update_val (int 5 ∷ Var kid2 ∷ [])) (gives (Stobj kid2 ∷ []) (family 0 5 End) 1)
-    ∷ run 1000 100 (family 0 5 End) (call both (Var kid2 ∷ Var kid ∷ [])) (gives (Stobj kid2 ∷ Stobj kid ∷ []) (family 8 7 End) 3)
-    ∷ run 1000 100 (family 0 5 End) (call both (Var kid ∷ Var kid2 ∷ [])) (gives (Stobj kid ∷ Stobj kid2 ∷ []) (family 7 8 End) 3)
+    run 1000 100 (family 0 0 End) (call update_val (int 5 ∷ Var kid2 ∷ [])) (gives (StobjNamed kid2 ∷ []) (family 0 5 End) 1)
+    ∷ run 1000 100 (family 0 5 End) (call both (Var kid2 ∷ Var kid ∷ [])) (gives (StobjNamed kid2 ∷ StobjNamed kid ∷ []) (family 8 7 End) 3)
+    ∷ run 1000 100 (family 0 5 End) (call both (Var kid ∷ Var kid2 ∷ [])) (gives (StobjNamed kid ∷ StobjNamed kid2 ∷ []) (family 7 8 End) 3)
     -- a stop hands the lists back too
     ∷ run 2 100 (family 0 5 End) (call both (Var kid2 ∷ Var kid ∷ [])) (stops Steps (family 0 7 End) 2)
     ∷ []

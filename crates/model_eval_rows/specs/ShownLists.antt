@@ -1,4 +1,4 @@
--- What is printed for an object, and the cells that it holds.
+-- What is printed for a stobj, and the cells that it holds.
 use Rattle.std.specs.Prelude.{◌≡◌, ℕ, ◌-◌, ◌^◌, List, [], ◌∷◌, codes, map}
 use Rattle.model_objects.specs.Object.{Object, Symbol, Text, Pair, list_onto}
 use Rattle.model_symbols.specs.Symbols.{QualifiedName}

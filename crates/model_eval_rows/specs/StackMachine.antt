@@ -1,4 +1,4 @@
--- A small stack machine: its program is a list of instructions, its object has a counter, a stack, a memory of 16 numbers,
+-- A small stack machine: its program is a list of instructions, its stobj has a counter, a stack, a memory of 16 numbers,
 -- names of places and a program. Instructions are (push n), (load name), (store name) and (add).
 use Rattle.std.specs.Prelude.{ℕ, List, [], ◌∷◌, ◌++◌, map, replicate, false, None}
 use Rattle.acl_base.specs.declared.layout.Test.TheVariants.{Eq}
@@ -14,8 +14,8 @@ use Rattle.model_terms.specs.Cores.{Core, Var, Const, If, Let, Mv, MvLet, cores}
 use Rattle.model_terms.specs.Worlds.{World, Definition, Ordinary}
 use Rattle.model_terms.specs.Worlds as worlds
 use Rattle.model_terms.specs.declared.role.Role.TheVariants as role
-use Rattle.model_eval.specs.Outcomes.{Stobj, Guard, Outcome}
-use Rattle.model_eval_rows.specs.Books.{Row, number, symbol, quoted, call, both_hold, always, items, numbers, primitives, primitive, function, generated, object, gives, stops, car_word, cons_word, plus_word}
+use Rattle.model_eval.specs.Outcomes.{StobjNamed, Guard, Outcome}
+use Rattle.model_eval_rows.specs.Books.{Row, number, symbol, quoted, call, both_hold, always, items, numbers, primitives, primitive, function, generated, stobj, gives, stops, car_word, cons_word, plus_word}
 
 -- ---- names
 
@@ -182,7 +182,7 @@ book =
     ∷ primitive eql_word 2 (Relation relation.Eql)
     ∷ primitive symbolp_word 1 (Recognizer recognizer.Symbolp)
     ∷ primitive true_listp_word 1 (Recognizer recognizer.TrueListp)
-    ∷ object sm
+    ∷ stobj sm
     (worlds.Scalar (list (Symbol integer_word ∷ number 0 ∷ number 1000 ∷ [])) (number 0) ∷ worlds.Scalar (Symbol truth) (Symbol nil)
     ∷ worlds.Array signed_32 (number 0) 16 false ∷ worlds.Hash Eq ∷ worlds.Scalar (Symbol truth) (Symbol nil) ∷ [])
     None sm
@@ -227,10 +227,10 @@ unfoldable pub machine_rows : List Row
 machine_rows =
     runs (machine [] 0 0)
     (instruction push (number 20 ∷ []) ∷ instruction push (number 22 ∷ []) ∷ instruction add [] ∷ instruction store (symbol x ∷ []) ∷ [])
-    (gives (Stobj sm ∷ []) ((sm, machine [] 42 0) ∷ []) 95)
+    (gives (StobjNamed sm ∷ []) ((sm, machine [] 42 0) ∷ []) 95)
     ∷ runs (machine [] 42 0)
     (instruction load (symbol x ∷ []) ∷ instruction load (symbol x ∷ []) ∷ instruction add [] ∷ instruction store (symbol y ∷ []) ∷ [])
-    (gives (Stobj sm ∷ []) ((sm, machine [] 42 84) ∷ []) 105)
+    (gives (StobjNamed sm ∷ []) ((sm, machine [] 42 84) ∷ []) 105)
     -- the second number that is to be added is missing: the first was taken from the stack
-    ∷ runs (machine [] 42 84) (instruction push (number 1 ∷ []) ∷ instruction add [] ∷ []) (stops (Guard pop_val (Stobj sm ∷ [])) ((sm, machine [] 42 84) ∷ []) 39)
+    ∷ runs (machine [] 42 84) (instruction push (number 1 ∷ []) ∷ instruction add [] ∷ []) (stops (Guard pop_val (StobjNamed sm ∷ [])) ((sm, machine [] 42 84) ∷ []) 39)
     ∷ []

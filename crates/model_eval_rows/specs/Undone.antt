@@ -1,4 +1,4 @@
--- Exports that stop, whose object is then as it was at the export's call: (defstobj st$c (val$c :type integer :initially 0)
+-- Exports that stop, whose stobj is then as it was at the export's call: (defstobj st$c (val$c :type integer :initially 0)
 -- (sum$c :type integer :initially 0)) is the foundation of `st`, (defstobj par (st-of :type st)) has one as its child, and
 -- (defstobj house$c (kid-of :type kid)) is the foundation of `house`.
 use Rattle.std.specs.Prelude.{◌≡◌, ℕ, ◌-◌, ◌^◌, List, [], ◌∷◌, ◌++◌, codes, true, Option, Some, None, pos}
@@ -15,9 +15,9 @@ use Rattle.model_terms.specs.Worlds.{World, Definition, Ordinary, Abstract, OfAb
 use Rattle.model_terms.specs.Worlds as worlds
 use Rattle.model_terms.specs.declared.role.Role.TheVariants as role
 use Rattle.model_terms.specs.declared.role.AbstractRole.TheVariants as abstract_role
-use Rattle.model_eval.specs.Outcomes.{Plain, Stobj, Stop, Guard, Steps, Depth, Range, Large, Symbols, Outcome, Gives, Stops}
+use Rattle.model_eval.specs.Outcomes.{Plain, StobjNamed, Stop, Guard, Steps, Depth, Range, Large, Symbols, Outcome, Gives, Stops}
 use Rattle.model_eval.specs.Checked.{checked, begun, live}
-use Rattle.model_eval_rows.specs.Books.{Row, number, symbol, int, quoted, call, always, items, numbers, primitives, primitive, function, generated, object, integer_field, origin, state, car_word, integerp_word, plus_word}
+use Rattle.model_eval_rows.specs.Books.{Row, number, symbol, int, quoted, call, always, items, numbers, primitives, primitive, function, generated, stobj, integer_field, origin, state, car_word, integerp_word, plus_word}
 
 -- ---- names
 
@@ -135,12 +135,12 @@ a = 252
 -- ---- the world
 
 abbrev exported : ℕ → ℕ → Core → ℕ → Definition
-exported object name guard exec = OfAbstract (record {
+exported stobj name guard exec = OfAbstract (record {
   name = name;
-  object = object;
+  stobj = stobj;
   role = abstract_role.Export;
-  formals = v ∷ object ∷ [];
-  signature = record { ins = Ordinary ∷ worlds.Stobj object ∷ []; outs = worlds.Stobj object ∷ [] };
+  formals = v ∷ stobj ∷ [];
+  signature = record { ins = Ordinary ∷ worlds.Stobj stobj ∷ []; outs = worlds.Stobj stobj ∷ [] };
   guard = guard;
   logic = 0;
   exec = exec;
@@ -156,9 +156,9 @@ abstract_on name below = Abstract (record {
   exports = [];
 })
 
--- a function of an ordinary value and an object, which it gives
+-- a function of an ordinary value and a stobj, which it gives
 abbrev changing : ℕ → ℕ → Core → Definition
-changing name object body = function name (v ∷ object ∷ []) (Ordinary ∷ worlds.Stobj object ∷ []) (worlds.Stobj object ∷ []) always body
+changing name stobj body = function name (v ∷ stobj ∷ []) (Ordinary ∷ worlds.Stobj stobj ∷ []) (worlds.Stobj stobj ∷ []) always body
 
 -- (let ((st$c (update-val$c 9 st$c))) (let ((st$c (update-sum$c 8 st$c))) (update-val$c form st$c)))
 abbrev writing : Core → Core
@@ -192,7 +192,7 @@ undoing =
     primitives
     ++ (primitive update_nth_word 3 (Listing listing.UpdateNth)
     ∷ primitive intern_word 2 (Naming naming.Intern)
-    ∷ object foundation (integer_field ∷ integer_field ∷ []) None foundation
+    ∷ stobj foundation (integer_field ∷ integer_field ∷ []) None foundation
     ∷ generated update_val_c foundation 0 role.Update (Ordinary ∷ worlds.Stobj foundation ∷ []) (worlds.Stobj foundation ∷ [])
     ∷ generated update_sum_c foundation 1 role.Update (Ordinary ∷ worlds.Stobj foundation ∷ []) (worlds.Stobj foundation ∷ [])
     ∷ function spin (x ∷ []) (Ordinary ∷ []) (Ordinary ∷ []) always (call spin (Var x ∷ []))
@@ -215,11 +215,11 @@ undoing =
     ∷ exported st careful (call integerp_word (Var v ∷ [])) put_both_c
     ∷ exported st picky (call car_word (Var v ∷ [])) put_both_c
     ∷ changing around st around_body
-    ∷ object par (worlds.Child st ∷ []) None par
+    ∷ stobj par (worlds.Child st ∷ []) None par
     ∷ generated st_of par 0 role.Access (worlds.Stobj par ∷ []) (worlds.Stobj st ∷ [])
-    ∷ object kid (integer_field ∷ []) None kid
+    ∷ stobj kid (integer_field ∷ []) None kid
     ∷ generated update_kid kid 0 role.Update (Ordinary ∷ worlds.Stobj kid ∷ []) (worlds.Stobj kid ∷ [])
-    ∷ object house_c (worlds.Child kid ∷ []) None house_c
+    ∷ stobj house_c (worlds.Child kid ∷ []) None house_c
     ∷ generated kid_of house_c 0 role.Access (worlds.Stobj house_c ∷ []) (worlds.Stobj kid ∷ [])
     ∷ changing in_kid_c house_c in_kid_body
     ∷ abstract_on house house_c
@@ -265,7 +265,7 @@ locally producer = WithLocal st (x ∷ st ∷ []) (Let (st ∷ []) (cores (produ
 unfoldable pub undone_rows : List Row
 undone_rows =
     -- the calls of an export, its exec function, two writes and the third
-    run 1000 100 (holding 4 0) (on_st put_both (int 7)) (Gives (Stobj st ∷ []) (state (holding 7 8) 5 1))
+    run 1000 100 (holding 4 0) (on_st put_both (int 7)) (Gives (StobjNamed st ∷ []) (state (holding 7 8) 5 1))
     -- each kind of stop, after both numbers were written
     ∷ run 1000 100 (holding 4 0) (on_st not_list (int 5)) (stopped no_list (Some not_list) 1 5 1 (holding 4 0))
     ∷ run 4 100 (holding 4 0) (on_st not_list (int 5)) (stopped Steps (Some not_list) 1 4 1 (holding 4 0))
@@ -273,8 +273,8 @@ undone_rows =
     ∷ run 1000 100 (holding 4 0) (on_st too_wide (Const (Integer (pos (2 ^ 127 - 1))))) (stopped (Range plus_word) (Some too_wide) 1 5 1 (holding 4 0))
     ∷ run 1000 100 (holding 4 0) (on_st too_large (int 1048577)) (stopped (Large update_nth_word) (Some too_large) 1 5 1 (holding 4 0))
     -- the last write's guard, which names the exec function's own variable; and with no write before it
-    ∷ run 1000 100 (holding 4 0) (on_st put_both (quoted a)) (stopped (Guard update_val_c (Plain (symbol a) ∷ Stobj foundation ∷ [])) (Some put_both) 1 5 1 (holding 4 0))
-    ∷ run 1000 100 (holding 4 0) (on_st put (quoted a)) (stopped (Guard update_val_c (Plain (symbol a) ∷ Stobj st ∷ [])) (Some put) 1 2 1 (holding 4 0))
+    ∷ run 1000 100 (holding 4 0) (on_st put_both (quoted a)) (stopped (Guard update_val_c (Plain (symbol a) ∷ StobjNamed foundation ∷ [])) (Some put_both) 1 5 1 (holding 4 0))
+    ∷ run 1000 100 (holding 4 0) (on_st put (quoted a)) (stopped (Guard update_val_c (Plain (symbol a) ∷ StobjNamed st ∷ [])) (Some put) 1 2 1 (holding 4 0))
     -- after the first write; and before it
     ∷ run 3 100 (holding 4 0) (on_st not_list (int 5)) (stopped Steps (Some not_list) 1 3 1 (holding 4 0))
     ∷ run 1000 3 (holding 4 0) (on_st not_list (int 5)) (stopped Depth (Some not_list) 1 3 1 (holding 4 0))
@@ -286,7 +286,7 @@ undone_rows =
     ∷ run 1 100 (holding 4 0) (on_st not_list (int 5)) (stopped Steps None 1 1 1 (holding 4 0))
     ∷ run 1000 100 (holding 4 0) (on_st picky (int 5)) (stopped no_list None 1 2 2 (holding 4 0))
     ∷ run 1 100 (holding 4 0) (on_st careful (int 5)) (stopped Steps None 1 1 1 (holding 4 0))
-    ∷ run 1000 100 (holding 4 0) (on_st careful (quoted a)) (stopped (Guard careful (Plain (symbol a) ∷ Stobj st ∷ [])) None 1 2 2 (holding 4 0))
+    ∷ run 1000 100 (holding 4 0) (on_st careful (quoted a)) (stopped (Guard careful (Plain (symbol a) ∷ StobjNamed st ∷ [])) None 1 2 2 (holding 4 0))
     -- before an export's call, in its argument; and after it, in the call that follows
     ∷ run 1000 100 (holding 4 0) (on_st put_both (call car_word (int 5 ∷ []))) (stopped no_list None 2 1 1 (holding 4 0))
     ∷ run 1000 100 (holding 4 0) (Let (st ∷ []) (cores (on_st put_both (int 7) ∷ [])) (call car_word (int 5 ∷ [])))
@@ -295,9 +295,9 @@ undone_rows =
     ∷ run 1000 100 (holding 4 0) (on_st around (int 5)) (stopped no_list (Some not_list) 3 8 3 (holding 7 0))
     ∷ run 4 100 (holding 4 0) (on_st around (int 5)) (stopped Steps None 3 4 3 (holding 7 0))
     ∷ run 3 100 (holding 4 0) (on_st around (int 5)) (stopped Steps None 3 3 2 (holding 7 0))
-    -- an export on a local object, inside another export: the outermost one is named, and its object is as it was
-    ∷ run 1000 100 (holding 4 0) (on_st on_local (int 5)) (Gives (Stobj st ∷ []) (state (holding 9 0) 6 1))
-    ∷ run 1000 100 (holding 4 0) (on_st on_local (quoted a)) (stopped (Guard update_val_c (Plain (symbol a) ∷ Stobj st ∷ [])) (Some on_local) 1 6 1 (holding 4 0))
+    -- an export on a local stobj, inside another export: the outermost one is named, and its stobj is as it was
+    ∷ run 1000 100 (holding 4 0) (on_st on_local (int 5)) (Gives (StobjNamed st ∷ []) (state (holding 9 0) 6 1))
+    ∷ run 1000 100 (holding 4 0) (on_st on_local (quoted a)) (stopped (Guard update_val_c (Plain (symbol a) ∷ StobjNamed st ∷ [])) (Some on_local) 1 6 1 (holding 4 0))
     ∷ run 5 100 (holding 4 0) (on_st on_local (int 5)) (stopped Steps (Some on_local) 1 5 1 (holding 4 0))
     ∷ run 4 100 (holding 4 0) (on_st on_local (int 5)) (stopped Steps (Some on_local) 1 4 1 (holding 4 0))
     -- under a STOBJ-LET: the parent has the child's list from before the export that stopped
@@ -305,10 +305,10 @@ undone_rows =
     ∷ run 5 100 (parent 4 0) (under_parent (on_st around (int 5))) (stopped Steps None 4 5 4 (parent 7 0))
     -- an export that ended, and then the count of the child's putting back
     ∷ run 6 100 (parent 4 0) (under_parent (on_st put_both (int 7))) (stopped Steps None 3 6 2 (parent 7 8))
-    -- a child of the foundation: it was put back, or is at the stop, and then the whole object is as it was
+    -- a child of the foundation: it was put back, or is at the stop, and then the whole stobj is as it was
     ∷ run 1000 100 (housing 4) (call in_kid (int 5 ∷ Var house ∷ [])) (stopped no_list (Some in_kid) 1 6 1 (housing 4))
     ∷ run 4 100 (housing 4) (call in_kid (int 5 ∷ Var house ∷ [])) (stopped Steps (Some in_kid) 1 4 1 (housing 4))
-    -- a local object leaves the object of its name
+    -- a local stobj leaves the stobj of its name
     ∷ run 1000 100 (holding 4 0) (locally (on_st around (int 5))) (stopped no_list (Some not_list) 4 9 4 (holding 4 0))
     ∷ run 1000 100 (holding 4 0) (locally (on_st put_both (int 7))) (Gives (Plain (number 1) ∷ []) (state (holding 4 0) 6 2))
     ∷ []

@@ -13,7 +13,7 @@ ghost use Rattle.model_eval_rows.specs.Abstract.{abstract_rows};
 ghost use Rattle.model_eval_rows.specs.Fields.{array_rows, hash_rows};
 ghost use Rattle.model_eval_rows.specs.Words.{AreNamed};
 
-/// Calls and limits, guards, several values, and a local object.
+/// Calls and limits, guards, several values, and a local stobj.
 #[tactic(auto, using(crate::proofs::Computed::counting))]
 pub fn counting()
     ensures { AreRight counting_rows }
@@ -37,15 +37,15 @@ pub fn children()
     ensures { AreRight child_rows }
 {}
 
-/// Functions called on congruent objects.
+/// Functions called on congruent stobjs.
 #[tactic(auto, using(crate::proofs::Computed::congruent))]
 pub fn congruent_objects()
     ensures { AreRight congruent_rows }
 {}
 
-/// Exports of an abstract object: what is counted, and what is inside.
-#[tactic(auto, using(crate::proofs::Computed::abstract_objects))]
-pub fn abstract_objects()
+/// Exports of an abstract stobj: what is counted, and what is inside.
+#[tactic(auto, using(crate::proofs::Computed::abstract_stobjs))]
+pub fn abstract_stobjs()
     ensures { AreRight abstract_rows }
 {}
 
@@ -55,7 +55,7 @@ pub fn types()
     ensures { TypesAreRight type_rows }
 {}
 
-/// What is printed for an object, and the cells that it holds.
+/// What is printed for a stobj, and the cells that it holds.
 #[tactic(auto, using(crate::proofs::Computed::shown_lists))]
 pub fn shown_lists()
     ensures { ShownAreRight shown_rows }
@@ -85,7 +85,7 @@ pub fn many_calls()
     ensures { AreRight counted_rows }
 {}
 
-/// Exports that stop: where the stop came from, and that their object is as it was.
+/// Exports that stop: where the stop came from, and that their stobj is as it was.
 #[tactic(auto, using(crate::proofs::Computed::undone))]
 pub fn undone_exports()
     ensures { AreRight undone_rows }

@@ -1,4 +1,4 @@
--- The definition of constants and packages, and the current package.
+-- The definition of constants and packages, and the current package (ACL2's manual, topics DEFCONST, DEFPKG, IN-PACKAGE).
 use Rattle.std.specs.Prelude.{ℕ, List, [], ◌∷◌, ◌++◌, map, Bool, true, false, Option, Some, None, option_map, option_and_then, is_some, unwrap_or, if◌then◌else◌}
 use Rattle.std.specs.Option.{option_or, option_map_or}
 use Rattle.std.specs.Str.{bytes_eq}
@@ -10,10 +10,10 @@ use Rattle.model_terms.specs.Cores.{Core}
 use Rattle.model_terms.specs.Worlds.{World, Definition, Constant}
 use Rattle.model_terms.specs.Faults.{constant_fault}
 use Rattle.model_eval.specs.Outcomes.{here, State, Outcome, Gives, Stops, Unknown, Depth}
-use Rattle.model_eval.specs.Scopes.{single, object_of}
+use Rattle.model_eval.specs.Variables.{single, object_of}
 use Rattle.model_eval.specs.Checked.{checked, begun}
 use Rattle.model_expansion.specs.Words.{defconst_word, defpkg_word, in_package_word}
-use Rattle.model_expansion.specs.Forms.{elements, each_of, symbol, text, has_stars}
+use Rattle.model_expansion.specs.Forms.{elements, each_of, symbol, text, has_stars, symbol_or_nil}
 use Rattle.model_expansion.specs.Faults.{Refusal, BadShape, Expand, BadName, Thread, UnknownPackage, PackageExists, ImportClash}
 use Rattle.model_expansion.specs.Expansion.{Setting, Progress, evaluated_to, expanded}
 use Rattle.model_stobjs.specs.Answers.{EventResult, Grants, Refuses, Halts, unless, needing, expanding}
@@ -52,13 +52,10 @@ abbrev pub bad_constant_name : List QualifiedName → Object ℕ → Option Refu
 bad_constant_name symbols (Symbol s) = if has_stars symbols s then None else Some (BadName (Symbol s))
 bad_constant_name symbols o = Some (BadName o)
 
-abbrev pub number : Object ℕ → ℕ
-number o = unwrap_or (symbol o) nil
-
 abbrev pub constant_then : Setting → Object ℕ × Object ℕ → Progress → EventResult World
 constant_then x c p =
-    unless (option_or (bad_constant_name p.symbols c.0) (name_in_use x.world (number c.0 ∷ [])))
-    (constant_value x c.1 (λ value. Grants (Constant (number c.0) value ∷ []))) p
+    unless (option_or (bad_constant_name p.symbols c.0) (name_in_use x.world (symbol_or_nil c.0 ∷ [])))
+    (constant_value x c.1 (λ value. Grants (Constant (symbol_or_nil c.0) value ∷ []))) p
 
 -- the definition of a constant, from what stands behind the head
 unfoldable pub constant_read : Setting → Object ℕ → Progress → EventResult World

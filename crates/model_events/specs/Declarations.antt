@@ -1,4 +1,4 @@
--- Formals and declarations of definitions.
+-- Formals and declarations of definitions (ACL2's manual, topics DECLARE, XARGS).
 use Rattle.std.specs.Prelude.{ℕ, List, [], ◌∷◌, ◌++◌, map, Bool, not, Option, Some, None, nat_eq, option_map, option_and_then, codes, if◌then◌else◌}
 use Rattle.std.specs.List.{list_all}
 use Rattle.model_objects.specs.Object.{Object, Integer, Symbol, Text, Pair}
@@ -6,11 +6,12 @@ use Rattle.model_symbols.specs.Symbols.{QualifiedName}
 use Rattle.model_symbols.specs.Opening.{truth, nil}
 use Rattle.model_terms.specs.Cores.{Core, Var}
 use Rattle.model_expansion.specs.Words.{declare_word, xargs_word, type_word, ignore_word, ignorable_word, optimize_word}
-use Rattle.model_expansion.specs.Forms.{elements, each, each_of, is, symbol, among, is_key, is_keyword_object, variable_name}
+use Rattle.model_expansion.specs.Forms.{elements, each, each_of, is, symbol, is_key, is_keyword_object, variable_name}
 use Rattle.model_expansion.specs.TypeTerms.{declared_test}
 use Rattle.model_expansion.specs.Faults.{Refusal, BadName, DuplicateFormal}
-use Rattle.model_expansion.specs.Layers.{GuardItem, Holds, Meets}
+use Rattle.model_expansion.specs.Layers.{GuardItem, FormHolds, Meets}
 use Rattle.model_stobjs.specs.Answers.{first_given}
+use Rattle.model_terms.specs.Classes.{has}
 
 -- ---- strings and declarations before a body
 
@@ -35,7 +36,7 @@ items_and_body (d ∷ (e ∷ os)) = with_items (declared_items d) (items_and_bod
 
 abbrev pub repeated_among : List ℕ → List ℕ → Option Refusal
 repeated_among seen [] = None
-repeated_among seen (x ∷ xs) = if among x seen then Some (DuplicateFormal x) else repeated_among (x ∷ seen) xs
+repeated_among seen (x ∷ xs) = if has seen x then Some (DuplicateFormal x) else repeated_among (x ∷ seen) xs
 
 module _ (symbols : List QualifiedName) where
   abbrev pub bad_formal : Object ℕ → Option Refusal
@@ -60,7 +61,7 @@ module _ (symbols : List QualifiedName) where
 
 -- ---- declarations
 
--- what the declarations of a definition say: what its guard asks, and which formals are objects
+-- what the declarations of a definition say: what its guard asks, and which formals are stobjs
 pub record Declared : Type 0 where
   pub guards : List GuardItem
   pub stobjs : List ℕ
@@ -85,19 +86,19 @@ stobjs_of (Pair a d) = each_of symbol (Pair a d)
 module _ (symbols : List QualifiedName) where
   -- a key of `XARGS` with its value
   abbrev pub keyed_declared : Object ℕ → Object ℕ → Option Declared
-  keyed_declared k v =
-      if not (is_keyword_object symbols k) then None
-      else if is_key symbols (codes "GUARD") k then Some (record { guards = Holds v ∷ []; stobjs = [] })
-      else if is_key symbols (codes "STOBJS") k then option_map (λ names. record { guards = []; stobjs = names }) (stobjs_of v)
+  keyed_declared key v =
+      if not (is_keyword_object symbols key) then None
+      else if is_key symbols (codes "GUARD") key then Some (record { guards = FormHolds v ∷ []; stobjs = [] })
+      else if is_key symbols (codes "STOBJS") key then option_map (λ names. record { guards = []; stobjs = names }) (stobjs_of v)
       else Some nothing_declared
 
   abbrev pub xargs_declared : List (Object ℕ) → Option Declared
   xargs_declared [] = Some nothing_declared
-  xargs_declared (k ∷ []) = None
-  xargs_declared (k ∷ (v ∷ os)) = option_and_then (λ d. option_map (both_declared d) (xargs_declared os)) (keyed_declared k v)
+  xargs_declared (key ∷ []) = None
+  xargs_declared (key ∷ (v ∷ os)) = option_and_then (λ d. option_map (both_declared d) (xargs_declared os)) (keyed_declared key v)
 
   abbrev pub declared_formal : List ℕ → Object ℕ → Option ℕ
-  declared_formal formals o = option_and_then (λ x. if among x formals then Some x else None) (symbol o)
+  declared_formal formals o = option_and_then (λ x. if has formals x then Some x else None) (symbol o)
 
   -- that a formal meets a type; `T` asks nothing
   abbrev pub type_items : Object ℕ → ℕ → Option (List GuardItem)

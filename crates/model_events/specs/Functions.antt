@@ -1,4 +1,4 @@
--- The definition of functions: one, or a clique.
+-- The definition of functions: one, or a clique (ACL2's manual, topics DEFUN, MUTUAL-RECURSION).
 use Rattle.std.specs.Prelude.{ℕ, List, [], ◌∷◌, ◌++◌, map, Bool, true, false, Option, Some, None, nat_eq, option_map, option_and_then, is_some, unwrap_or, if◌then◌else◌}
 use Rattle.std.specs.Option.{option_or, option_map_or}
 use Rattle.std.specs.List.{filter, zip}
@@ -11,7 +11,7 @@ use Rattle.model_terms.specs.Worlds.{World, Out, Ordinary, Signature, Function, 
 use Rattle.model_terms.specs.Rounds.{Member, clique}
 use Rattle.model_terms.specs.Faults.{Fault, clique_fault}
 use Rattle.model_expansion.specs.Words.{defun_word, defund_word, defun_nx_word, mutual_recursion_word}
-use Rattle.model_expansion.specs.Forms.{elements, each, is, symbol}
+use Rattle.model_expansion.specs.Forms.{elements, each, is, symbol, symbol_or_nil}
 use Rattle.model_expansion.specs.Faults.{Refusal, BadShape, Expand, BadDeclare, Thread}
 use Rattle.model_expansion.specs.Layers.{GuardItem}
 use Rattle.model_expansion.specs.Expansion.{Setting, Progress, Expanded, Makes, then_make, expanded, expanded_guard}
@@ -70,9 +70,6 @@ written_functions head d =
 
 -- ---- names, formals and declarations
 
-abbrev pub number : Object ℕ → ℕ
-number o = unwrap_or (symbol o) nil
-
 pub record Draft : Type 0 where
   pub name : ℕ
   pub formals : List ℕ
@@ -84,7 +81,7 @@ module _ (symbols : List QualifiedName) where
   abbrev pub draft_of : WrittenFunction → Option Draft
   draft_of f =
       option_map (λ declared. record {
-        name = number f.name;
+        name = symbol_or_nil f.name;
         formals = formals_of symbols f.formals;
         declared = declared;
         body = f.body;
@@ -92,13 +89,13 @@ module _ (symbols : List QualifiedName) where
       }) (declarations symbols (formals_of symbols f.formals) f.items)
 
   abbrev pub bad_declaration : WrittenFunction → Option Refusal
-  bad_declaration f = if is_some (draft_of f) then None else Some (BadDeclare (number f.name))
+  bad_declaration f = if is_some (draft_of f) then None else Some (BadDeclare (symbol_or_nil f.name))
 
   -- what is wrong before expansion, each step for all functions before the next
   unfoldable pub written_fault : World → List WrittenFunction → Option Refusal
   written_fault w fs =
       option_or (bad_name symbols (map (λ (f : WrittenFunction). f.name) fs))
-      (option_or (name_in_use w (map (λ (f : WrittenFunction). number f.name) fs))
+      (option_or (name_in_use w (map (λ (f : WrittenFunction). symbol_or_nil f.name) fs))
       (option_or (first_given (λ (f : WrittenFunction). formals_fault symbols f.formals) fs) (first_given bad_declaration fs)))
 
   abbrev pub drafts_of : List WrittenFunction → List Draft

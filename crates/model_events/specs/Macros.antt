@@ -1,4 +1,4 @@
--- The definition of a macro.
+-- The definition of a macro (ACL2's manual, topics DEFMACRO, MACRO-ARGS).
 use Rattle.std.specs.Prelude.{ℕ, List, [], ◌∷◌, ◌++◌, map, Bool, ◌||◌, Option, Some, None, option_map, option_and_then, is_some, unwrap_or, option_to_list, if◌then◌else◌}
 use Rattle.std.specs.Option.{option_or, option_map_or}
 use Rattle.std.specs.List.{flat_map}
@@ -9,12 +9,12 @@ use Rattle.model_terms.specs.Cores.{Core}
 use Rattle.model_terms.specs.Worlds.{World, Definition, Macro, OptionalFormal, MacroFormals}
 use Rattle.model_terms.specs.Faults.{macro_fault}
 use Rattle.model_expansion.specs.Words.{optional_word, rest_mark_word, body_word, key_word, defmacro_word}
-use Rattle.model_expansion.specs.Forms.{elements, each, is, symbol}
+use Rattle.model_expansion.specs.Forms.{elements, each, is, symbol, symbol_or_nil}
 use Rattle.model_expansion.specs.Faults.{Refusal, BadShape, Expand, BadDeclare, Thread}
 use Rattle.model_expansion.specs.Expansion.{Setting, Progress, expanded}
 use Rattle.model_stobjs.specs.Answers.{EventResult, Grants, unless, needing, expanding}
 use Rattle.model_stobjs.specs.Heads.{name_in_use, bad_name}
-use Rattle.model_stobjs.specs.Objects.{before_first, from_first}
+use Rattle.model_stobjs.specs.Descriptors.{before_first, from_first}
 use Rattle.model_events.specs.Declarations.{items_and_body, formals_of, formals_fault, declarations}
 
 -- ---- as it is written
@@ -104,17 +104,14 @@ optional_objects fs = flat_map (λ (f : WrittenOptional). f.name ∷ option_to_l
 abbrev pub formal_objects : WrittenFormals → List (Object ℕ)
 formal_objects f = f.required ++ (optional_objects f.optional ++ (option_to_list f.rest ++ optional_objects (unwrap_or f.keys [])))
 
-abbrev pub number : Object ℕ → ℕ
-number o = unwrap_or (symbol o) nil
-
 abbrev pub optional_formal : WrittenOptional → OptionalFormal
-optional_formal f = record { name = number f.name; default = f.default; supplied = option_map number f.supplied }
+optional_formal f = record { name = symbol_or_nil f.name; default = f.default; supplied = option_map symbol_or_nil f.supplied }
 
 abbrev pub macro_formals : WrittenFormals → MacroFormals
 macro_formals f = record {
-  required = map number f.required;
+  required = map symbol_or_nil f.required;
   optional = map optional_formal f.optional;
-  rest = option_map number f.rest;
+  rest = option_map symbol_or_nil f.rest;
   keys = option_map (map optional_formal) f.keys;
 }
 
@@ -122,16 +119,16 @@ macro_formals f = record {
 
 abbrev pub bad_declaration : List QualifiedName → WrittenMacro → Option Refusal
 bad_declaration symbols m =
-    if is_some (declarations symbols (formals_of symbols (formal_objects m.formals)) m.items) then None else Some (BadDeclare (number m.name))
+    if is_some (declarations symbols (formals_of symbols (formal_objects m.formals)) m.items) then None else Some (BadDeclare (symbol_or_nil m.name))
 
 abbrev pub written_fault : List QualifiedName → World → WrittenMacro → Option Refusal
 written_fault symbols w m =
     option_or (bad_name symbols (m.name ∷ []))
-    (option_or (name_in_use w (number m.name ∷ [])) (option_or (formals_fault symbols (formal_objects m.formals)) (bad_declaration symbols m)))
+    (option_or (name_in_use w (symbol_or_nil m.name ∷ [])) (option_or (formals_fault symbols (formal_objects m.formals)) (bad_declaration symbols m)))
 
 abbrev pub body_then : World → WrittenMacro → Core → Progress → EventResult World
 body_then w m body p =
-    let formals = macro_formals m.formals in unless (option_map Thread (macro_fault w formals body)) (Grants (Macro (number m.name) formals body ∷ [])) p
+    let formals = macro_formals m.formals in unless (option_map Thread (macro_fault w formals body)) (Grants (Macro (symbol_or_nil m.name) formals body ∷ [])) p
 
 abbrev pub macro_then : Setting → WrittenMacro → Progress → EventResult World
 macro_then x m p = unless (written_fault p.symbols x.world m) (λ after. expanding (expanded x m.body after) (body_then x.world m)) p

@@ -1,4 +1,5 @@
--- Expansion: the core form of a form, or the first fault in preorder; with the calls counted and the symbols that are known.
+-- Expansion: the core form of a form, or the first fault in preorder; with the calls counted and the symbols that are known
+-- (ACL2's manual, topic DEFMACRO).
 use Rattle.std.specs.Prelude.{ℕ, zero, suc, ◌+◌, ◌-◌, List, [], ◌∷◌, ◌++◌, map, length, take, drop, Bool, true, false, ◌&&◌, not, nat_eq, nat_le, nat_lt, Option, Some, None, option_map, option_and_then, slice_get, unwrap_or, option_to_list, if◌then◌else◌}
 use Rattle.std.specs.Option.{option_or}
 use Rattle.std.specs.List.{list_any, list_all, find}
@@ -12,12 +13,12 @@ use Rattle.model_terms.specs.Cores as core
 use Rattle.model_terms.specs.Worlds.{World, Definition, Function, OptionalFormal, MacroFormals, definition, Primitive, Defined, Macro, Constant, Concrete, Generated, Abstract, OfAbstract, Named, Signed}
 use Rattle.model_terms.specs.Faults.{formal_names}
 use Rattle.model_eval.specs.Outcomes.{Shown, Stop, Steps, Depth, Origin, here, State, Outcome, Gives, Stops, Unknown}
-use Rattle.model_eval.specs.Scopes.{bound, plain, single, object_of}
+use Rattle.model_eval.specs.Variables.{bound, plain, single, object_of}
 use Rattle.model_eval.specs.Checked.{checked, begun}
-use Rattle.model_expansion.specs.Forms.{elements, list, name_of, is_key, is_self_evaluating}
+use Rattle.model_expansion.specs.Forms.{elements, list, symbol_name, is_key, is_self_evaluating}
 use Rattle.model_expansion.specs.TypeTerms.{true_core, false_core, depth_of}
 use Rattle.model_expansion.specs.Faults.{ExpandFault, MacroArgs, BadShape, MacroStopped, UnknownFunction, Arity, TooNested}
-use Rattle.model_expansion.specs.Layers.{Row, core_row, macro_row, Kind, IfNode, LetNode, MvNode, MvLetNode, StobjLetNode, WithLocalNode, MustBeEqualNode, CallNode, GuardItem, Holds, Meets, Part, Form, Ready, Rest, Guard, Found, Leaf, Node, Made, Again, Stays, leaf, if_made, call_made, false_part, made_of}
+use Rattle.model_expansion.specs.Layers.{MacroRow, core_row, macro_row, Kind, IfNode, LetNode, MvNode, MvLetNode, StobjLetNode, WithLocalNode, MustBeEqualNode, CallNode, GuardItem, FormHolds, Meets, Part, Form, Ready, Rest, Guard, Found, Leaf, Node, Made, Again, Stays, leaf, if_made, call_made, false_part, made_of}
 
 -- how deep a core form may be
 abbrev pub deepest_core : ℕ
@@ -60,24 +61,24 @@ then_make (Makes a p) go = go a p
 then_make (Fails f p) go = Fails f p
 
 -- a use that is counted, and then the rest; no use passes the limit
-abbrev pub counting : {A : Type 0} → ℕ → (Progress → Expanded A) → Progress → Expanded A
-counting steps go p = if nat_lt p.calls steps then go (record p { calls = p.calls + 1; outer = p.outer + 1 }) else Fails (MacroStopped Steps None) p
+abbrev pub counting_expansion : {A : Type 0} → ℕ → (Progress → Expanded A) → Progress → Expanded A
+counting_expansion steps go p = if nat_lt p.calls steps then go (record p { calls = p.calls + 1; outer = p.outer + 1 }) else Fails (MacroStopped Steps None) p
 
 -- ---- nodes
 
 abbrev pub part_at : List Core → ℕ → Core
-part_at fs k = unwrap_or (slice_get fs k) false_core
+part_at fs i = unwrap_or (slice_get fs i) false_core
 
 -- a node with its parts
-abbrev pub joined : Kind → List Core → Core
-joined IfNode fs = core.If (part_at fs 0) (part_at fs 1) (part_at fs 2)
-joined (LetNode names) fs = core.Let names (cores (take (length names) fs)) (part_at fs (length names))
-joined MvNode fs = core.Mv (cores fs)
-joined (MvLetNode names) fs = core.MvLet names (part_at fs 0) (part_at fs 1)
-joined (StobjLetNode names vars) fs = core.StobjLet names (cores (take (length names) fs)) vars (part_at fs (length names)) (part_at fs (length names + 1))
-joined (WithLocalNode object names) fs = core.WithLocal object names (part_at fs 0) (part_at fs 1)
-joined MustBeEqualNode fs = core.MustBeEqual (part_at fs 0) (part_at fs 1)
-joined (CallNode f) fs = core.Call f (cores fs)
+abbrev pub core_of_node : Kind → List Core → Core
+core_of_node IfNode fs = core.If (part_at fs 0) (part_at fs 1) (part_at fs 2)
+core_of_node (LetNode names) fs = core.Let names (cores (take (length names) fs)) (part_at fs (length names))
+core_of_node MvNode fs = core.Mv (cores fs)
+core_of_node (MvLetNode names) fs = core.MvLet names (part_at fs 0) (part_at fs 1)
+core_of_node (StobjLetNode names vars) fs = core.StobjLet names (cores (take (length names) fs)) vars (part_at fs (length names)) (part_at fs (length names + 1))
+core_of_node (WithLocalNode stobj names) fs = core.WithLocal stobj names (part_at fs 0) (part_at fs 1)
+core_of_node MustBeEqualNode fs = core.MustBeEqual (part_at fs 0) (part_at fs 1)
+core_of_node (CallNode f) fs = core.Call f (cores fs)
 
 -- ---- the actuals of a user macro
 
@@ -111,13 +112,13 @@ optional_taken fs os = (all_optional_values fs os, drop (length fs) os)
 -- keys with their values
 abbrev pub key_pairs : List (Object ℕ) → Option (List (Object ℕ × Object ℕ))
 key_pairs [] = Some []
-key_pairs (k ∷ []) = None
-key_pairs (k ∷ (v ∷ os)) = option_map (λ ps. (k, v) ∷ ps) (key_pairs os)
+key_pairs (key ∷ []) = None
+key_pairs (key ∷ (v ∷ os)) = option_map (λ ps. (key, v) ∷ ps) (key_pairs os)
 
 module _ (symbols : List QualifiedName) where
   -- the keyword of a formal
   abbrev pub names_formal : Object ℕ → OptionalFormal → Bool
-  names_formal k f = is_key symbols (name_of symbols f.name) k
+  names_formal key f = is_key symbols (symbol_name symbols f.name) key
 
   -- the keys of this formal
   abbrev pub key_count : OptionalFormal → List (Object ℕ × Object ℕ) → ℕ
@@ -125,18 +126,18 @@ module _ (symbols : List QualifiedName) where
   key_count f (p ∷ ps) = key_count f ps + (if names_formal p.0 f then 1 else 0)
 
   abbrev pub is_known_key : List OptionalFormal → Object ℕ → Bool
-  is_known_key fs k = list_any (names_formal k) fs
+  is_known_key fs key = list_any (names_formal key) fs
 
   -- each key is one of a formal, and no formal has two
   abbrev pub keys_fit : List OptionalFormal → List (Object ℕ × Object ℕ) → Bool
   keys_fit fs ps = list_all (λ (p : Object ℕ × Object ℕ). is_known_key fs p.0) ps && list_all (λ (f : OptionalFormal). nat_le (key_count f ps) 1) fs
 
-  abbrev pub key_value : List (Object ℕ × Object ℕ) → OptionalFormal → Option (Object ℕ)
-  key_value ps f = option_map (λ (p : Object ℕ × Object ℕ). p.1) (find (λ (p : Object ℕ × Object ℕ). names_formal p.0 f) ps)
+  abbrev pub actual_of_key : List (Object ℕ × Object ℕ) → OptionalFormal → Option (Object ℕ)
+  actual_of_key ps f = option_map (λ (p : Object ℕ × Object ℕ). p.1) (find (λ (p : Object ℕ × Object ℕ). names_formal p.0 f) ps)
 
   abbrev pub all_key_values : List OptionalFormal → List (Object ℕ × Object ℕ) → List (Object ℕ)
   all_key_values [] ps = []
-  all_key_values (f ∷ fs) ps = optional_values f (key_value ps f) ++ all_key_values fs ps
+  all_key_values (f ∷ fs) ps = optional_values f (actual_of_key ps f) ++ all_key_values fs ps
 
   abbrev pub keys_taken : List OptionalFormal → List (Object ℕ) → Option (List (Object ℕ))
   keys_taken fs os = option_and_then (λ ps. if keys_fit fs ps then Some (all_key_values fs ps) else None) (key_pairs os)
@@ -163,7 +164,7 @@ module _ (symbols : List QualifiedName) where
 pub data Look : Type 0 where
   Stands : Found → Look
   Bad : ExpandFault → Look
-  Use : ℕ → Row → Object ℕ → Look
+  Use : ℕ → MacroRow → Object ℕ → Look
   UserUse : ℕ → MacroFormals → Core → Object ℕ → Look
 
 abbrev pub Settle : Type 0
@@ -217,11 +218,11 @@ defined_look s d (Some (Macro name formals body)) = UserUse s formals body d
 defined_look s d found = function_look s d (arity_of found)
 
 module _ (x : Setting) where
-  abbrev pub macro_look : List QualifiedName → ℕ → Object ℕ → Option Row → Look
+  abbrev pub macro_look : List QualifiedName → ℕ → Object ℕ → Option MacroRow → Look
   macro_look symbols s d None = defined_look s d (definition x.world s)
   macro_look symbols s d (Some row) = Use s row d
 
-  abbrev pub headed_look : List QualifiedName → ℕ → Object ℕ → Option Row → Look
+  abbrev pub headed_look : List QualifiedName → ℕ → Object ℕ → Option MacroRow → Look
   headed_look symbols s d None = macro_look symbols s d (macro_row s)
   headed_look symbols s d (Some row) = core_look s (option_and_then (made_of symbols row) (elements d))
 
@@ -246,7 +247,7 @@ module _ (x : Setting) where
   look_at symbols (Pair a d) = list_look symbols a d
 
   -- a use of a built-in macro that was counted
-  abbrev pub built : ℕ → Row → Object ℕ → Progress → Expanded Made
+  abbrev pub built : ℕ → MacroRow → Object ℕ → Progress → Expanded Made
   built s row d p = of_shape (option_and_then (made_of p.symbols row) (elements d)) where
     of_shape : Option Made → Expanded Made
     of_shape None = Fails (BadShape s) p
@@ -267,8 +268,8 @@ module _ (x : Setting) where
   abbrev pub looked : Look → Progress → Expanded Made
   looked (Stands f) p = Makes (Stays f) p
   looked (Bad f) p = Fails f p
-  looked (Use s row d) p = counting x.steps (built s row d) p
-  looked (UserUse s formals body d) p = counting x.steps (used s formals body (elements d)) p
+  looked (Use s row d) p = counting_expansion x.steps (built s row d) p
+  looked (UserUse s formals body d) p = counting_expansion x.steps (used s formals body (elements d)) p
 
   -- what stands at a place in the end: each use there takes one of the steps that are left
   unfoldable pub settled : ℕ → Settle
@@ -303,7 +304,7 @@ module _ (x : Setting) where
     ready_fault (core.MvLet names form body) left = if_room left (option_or (ready_fault form (left - 1)) (ready_fault body (left - 1)))
     ready_fault (core.StobjLet names forms vars producer consumer) left =
         if_room left (option_or (ready_faults forms (left - 1)) (option_or (ready_fault producer (left - 1)) (ready_fault consumer (left - 1))))
-    ready_fault (core.WithLocal object names producer body) left = if_room left (option_or (ready_fault producer (left - 1)) (ready_fault body (left - 1)))
+    ready_fault (core.WithLocal stobj names producer body) left = if_room left (option_or (ready_fault producer (left - 1)) (ready_fault body (left - 1)))
     ready_fault (core.MustBeEqual logic exec) left = if_room left (option_or (ready_fault logic (left - 1)) (ready_fault exec (left - 1)))
     ready_fault (core.Call f fs) left = if_room left (option_or (head_fault f (core.count fs) (arity_of (definition x.world f))) (ready_faults fs (left - 1)))
 
@@ -320,13 +321,13 @@ module _ (x : Setting) where
   ready left f p = ready_found f (ready_fault f left) p
 
   abbrev pub item_part : GuardItem → Part
-  item_part (Holds o) = Form o
+  item_part (FormHolds o) = Form o
   item_part (Meets f) = Ready f
 
   -- all of the tests: `'T` where there are none
   abbrev pub guard_found : ℕ → List GuardItem → Progress → Expanded Found
   guard_found left [] p = Makes (Leaf true_core) p
-  guard_found left (Holds o ∷ []) p = settle o p
+  guard_found left (FormHolds o ∷ []) p = settle o p
   guard_found left (Meets f ∷ []) p = ready left f p
   guard_found left (g ∷ (h ∷ gs)) p = Makes (Node IfNode (item_part g ∷ Guard (h ∷ gs) ∷ false_part ∷ [])) p
 
@@ -348,7 +349,7 @@ grown_all grow (q ∷ qs) done p = then_make (grow q p) (λ f after. grown_all g
 
 abbrev pub grown_found : Grow → Found → Progress → Expanded Core
 grown_found grow (Leaf f) p = Makes f p
-grown_found grow (Node k qs) p = then_make (grown_all grow qs [] p) (λ fs after. Makes (joined k fs) after)
+grown_found grow (Node k qs) p = then_make (grown_all grow qs [] p) (λ fs after. Makes (core_of_node k fs) after)
 
 -- the core form of a part, where so many levels are left
 unfoldable pub grown : Setting → ℕ → Grow

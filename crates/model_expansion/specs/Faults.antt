@@ -1,4 +1,4 @@
--- Why a form is refused.
+-- Why a form is refused (ACL2's manual, topic DEFMACRO).
 use Rattle.std.specs.Prelude.{ℕ, Option}
 use Rattle.model_objects.specs.Object.{Object}
 use Rattle.model_terms.specs.Faults.{Fault}
@@ -13,7 +13,7 @@ pub data ExpandFault : Type 0 where
   Arity : ℕ → ExpandFault
   TooNested : ExpandFault
 
--- the first refusal of a command but for the definition of an abstract object
+-- the first refusal of a command but for the definition of an abstract stobj
 pub data Refusal : Type 0 where
   NameInUse : ℕ → Refusal
   BadName : Object ℕ → Refusal
@@ -29,7 +29,7 @@ pub data Refusal : Type 0 where
   NotSupported : ℕ → Refusal
   Thread : Fault → Refusal
   Expand : ExpandFault → Refusal
-  -- of abstract objects
+  -- of abstract stobjs
   FoundationNotConcrete : ℕ → Refusal
   MissingFunction : ℕ → Refusal
   SignatureMismatch : ℕ → Refusal

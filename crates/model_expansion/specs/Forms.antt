@@ -1,11 +1,12 @@
--- Parts of forms.
-use Rattle.std.specs.Prelude.{ℕ, List, [], ◌∷◌, length, Bool, true, false, ◌&&◌, ◌||◌, not, ◌==◌, Option, Some, None, nat_eq, nat_le, slice_index, option_map, option_and_then, if◌then◌else◌}
+-- Parts of forms (ACL2's manual, topic TERM).
+use Rattle.std.specs.Prelude.{unwrap_or, ℕ, List, [], ◌∷◌, length, Bool, true, false, ◌&&◌, ◌||◌, not, ◌==◌, Option, Some, None, nat_eq, nat_le, slice_index, option_map, option_and_then, if◌then◌else◌}
 use Rattle.std.specs.List.{last_or, list_any}
 use Rattle.std.specs.Str.{bytes_eq}
 use Rattle.model_objects.specs.Object.{Object, Integer, Symbol, Text, Pair, list_onto}
 use Rattle.model_symbols.specs.Symbols.{QualifiedName, symbol_at}
 use Rattle.model_symbols.specs.Opening.{nil, truth, keyword, hidden, common_lisp}
 use Rattle.model_expansion.specs.Words.{hidden_variable_word}
+use Rattle.model_terms.specs.Classes.{has}
 
 -- ---- lists
 
@@ -36,6 +37,10 @@ symbol (Symbol s) = Some s
 symbol (Text bytes) = None
 symbol (Pair a d) = None
 
+-- the symbol that the object is, NIL where it is none
+abbrev pub symbol_or_nil : Object ℕ → ℕ
+symbol_or_nil o = unwrap_or (symbol o) nil
+
 -- the object is this symbol
 abbrev pub is : ℕ → Object ℕ → Bool
 is s (Integer n) = false
@@ -56,19 +61,16 @@ has_head s (Symbol t) = false
 has_head s (Text bytes) = false
 has_head s (Pair a d) = is s a
 
--- the same symbol twice
-abbrev pub among : ℕ → List ℕ → Bool
-among x xs = list_any (nat_eq x) xs
-
+-- no symbol stands twice
 abbrev pub are_different : List ℕ → Bool
 are_different [] = true
-are_different (x ∷ xs) = not (among x xs) && are_different xs
+are_different (x ∷ xs) = not (has xs x) && are_different xs
 
 -- ---- names, given the symbols that are known
 
 module _ (symbols : List QualifiedName) where
-  abbrev pub name_of : ℕ → List ℕ
-  name_of s = (symbol_at symbols s).name
+  abbrev pub symbol_name : ℕ → List ℕ
+  symbol_name s = (symbol_at symbols s).name
 
   abbrev pub home_of : ℕ → List ℕ
   home_of s = (symbol_at symbols s).home
@@ -85,13 +87,13 @@ module _ (symbols : List QualifiedName) where
   -- the object is the keyword of this name
   abbrev pub is_key : List ℕ → Object ℕ → Bool
   is_key name (Integer n) = false
-  is_key name (Symbol s) = is_keyword s && bytes_eq (name_of s) name
+  is_key name (Symbol s) = is_keyword s && bytes_eq (symbol_name s) name
   is_key name (Text bytes) = false
   is_key name (Pair a d) = false
 
   -- at least three bytes, a star first and last
   abbrev pub has_stars : ℕ → Bool
-  has_stars s = let name = name_of s in nat_le 3 (length name) && ((slice_index name 0 == 42) && (last_byte name == 42)) where
+  has_stars s = let name = symbol_name s in nat_le 3 (length name) && ((slice_index name 0 == 42) && (last_byte name == 42)) where
     last_byte : List ℕ → ℕ
     last_byte [] = 0
     last_byte (b ∷ []) = b
@@ -105,7 +107,7 @@ module _ (symbols : List QualifiedName) where
   abbrev pub may_be_variable : ℕ → Bool
   may_be_variable s =
       not (is_keyword s)
-      && (not (nat_eq s truth || nat_eq s nil) && (not (is_out_of_sight s) && (not (slice_index (name_of s) 0 == 38) && not (has_stars s))))
+      && (not (nat_eq s truth || nat_eq s nil) && (not (is_out_of_sight s) && (not (slice_index (symbol_name s) 0 == 38) && not (has_stars s))))
 
   abbrev pub variable_name : Object ℕ → Option ℕ
   variable_name (Integer n) = None

@@ -1,5 +1,5 @@
 -- The table of core forms and built-in macros. A macro is given one layer at a time: a node, and parts, of which some are
--- what is left of a row.
+-- what is left of a row (ACL2's manual, topics MACRO-ARGS, COND, CASE, LET*).
 use Rattle.std.specs.Prelude.{ℕ, ◌+◌, ◌-◌, List, [], ◌∷◌, ◌++◌, map, length, ℤ, pos, neg_ℤ, Bool, true, false, not, ◌&&◌, ◌||◌, nat_eq, nat_le, Option, Some, None, option_map, option_and_then, slice_get, unwrap_or, codes, if◌then◌else◌}
 use Rattle.std.specs.List.{list_all}
 use Rattle.model_objects.specs.Object.{Object, Integer, Symbol, Text, Pair}
@@ -8,50 +8,51 @@ use Rattle.model_symbols.specs.Opening.{truth, nil, quote}
 use Rattle.model_prims.specs.Kinds.{is_pair}
 use Rattle.model_lists.specs.Types.{cons_word, not_word, member_word, and_word, or_word}
 use Rattle.model_terms.specs.Cores.{Core, Var, Const}
-use Rattle.model_expansion.specs.Words.{if_word, let_word, let_star_word, car_word, cdr_word, eql_word, below_word, at_most_word, above_word, at_least_word, plus_word, times_word, minus_word, add_one_word, subtract_one_word, logand_word, logior_word, logxor_word, list_word, list_star_word, append_word, assoc_word, cond_word, case_word, otherwise_word, the_word, first_word, second_word, third_word, fourth_word, fifth_word, rest_word, caar_word, cddddr_word, declare_word, mv_word, mv_let_word, stobj_let_word, with_local_word, must_be_equal_word, mbe_word, mbt_word, prog2_word, the_check_word, binary_plus_word, binary_times_word, unary_minus_word, binary_logand_word, binary_logior_word, binary_logxor_word, binary_append_word, member_equal_word, member_eq_word, assoc_equal_word, assoc_eq_word, union_equal_word, union_eq_word, hidden_variable_word}
-use Rattle.model_expansion.specs.Forms.{elements, each, each_of, is, has_head, are_different, name_of, is_key, variable_name}
+use Rattle.model_expansion.specs.Words.{if_word, let_word, let_star_word, car_word, cdr_word, eql_word, below_word, at_most_word, above_word, at_least_word, plus_word, times_word, minus_word, add_one_word, subtract_one_word, logand_word, logior_word, logxor_word, list_word, list_star_word, append_word, assoc_word, cond_word, case_word, otherwise_word, the_word, first_word, second_word, third_word, fourth_word, fifth_word, rest_word, caar_word, cddddr_word, declare_word, mv_word, mv_let_word, with_local_word, must_be_equal_word, mbe_word, mbt_word, prog2_word, the_check_word, binary_plus_word, binary_times_word, unary_minus_word, binary_logand_word, binary_logior_word, binary_logxor_word, binary_append_word, member_equal_word, member_eq_word, assoc_equal_word, assoc_eq_word, union_equal_word, union_eq_word, hidden_variable_word}
+use Rattle.model_expansion.specs.Forms.{elements, each, each_of, is, has_head, are_different, symbol_name, is_key, variable_name}
 use Rattle.model_expansion.specs.TypeTerms.{true_core, false_core, call_core, type_term}
+use Rattle.model_eval.specs.Evaluated.{stobj_let_word}
 
 -- ---- rows
 
-pub data Row : Type 0 where
+pub data MacroRow : Type 0 where
   -- core forms
-  Quote : Row
-  If : Row
-  Let : Row
-  Mv : Row
-  MvLet : Row
-  StobjLet : Row
-  WithLocal : Row
-  MustBeEqual : Row
+  Quote : MacroRow
+  If : MacroRow
+  Let : MacroRow
+  Mv : MacroRow
+  MvLet : MacroRow
+  StobjLet : MacroRow
+  WithLocal : MacroRow
+  MustBeEqual : MacroRow
   -- macros
-  And : Row
-  Or : Row
-  Cond : Row
-  Case : Row
-  LetStar : Row
-  Listing : Row
-  ListStar : Row
-  Chain : ℕ → Object ℕ → Row  -- this function of two, and what none is
-  Minus : Row
-  Added : ℤ → Row
-  Two : ℕ → Row  -- this function of two
-  Turned : ℕ → Row  -- the same with its arguments turned
-  Negated : Row → Row
-  Path : List ℕ → Row  -- CAR and CDR by their letters, the outermost first
-  Then : Row
-  Mbt : Row
-  Mbe : Row
-  The : Row
+  And : MacroRow
+  Or : MacroRow
+  Cond : MacroRow
+  Case : MacroRow
+  LetStar : MacroRow
+  Listing : MacroRow
+  ListStar : MacroRow
+  Chain : ℕ → Object ℕ → MacroRow  -- this function of two, and what none is
+  Minus : MacroRow
+  Added : ℤ → MacroRow
+  Two : ℕ → MacroRow  -- this function of two
+  Turned : ℕ → MacroRow  -- the same with its arguments turned
+  Negated : MacroRow → MacroRow
+  Path : List ℕ → MacroRow  -- CAR and CDR by their letters, the outermost first
+  Then : MacroRow
+  Mbt : MacroRow
+  Mbe : MacroRow
+  The : MacroRow
   -- what is left of one
-  OrTest : Row
-  CondTest : Row
-  Clauses : Row
-  Bindings : Row
-  Checked : Row
+  OrTest : MacroRow
+  CondTest : MacroRow
+  Clauses : MacroRow
+  Bindings : MacroRow
+  Checked : MacroRow
 
 -- a core form
-abbrev pub core_row : ℕ → Option Row
+abbrev pub core_row : ℕ → Option MacroRow
 core_row s =
     if nat_eq s quote then Some Quote
     else if nat_eq s if_word then Some If
@@ -71,7 +72,7 @@ path_text =
     ∷ codes "AAAA" ∷ codes "AAAD" ∷ codes "AADA" ∷ codes "AADD" ∷ codes "ADAA" ∷ codes "ADAD" ∷ codes "ADDA" ∷ codes "ADDD"
     ∷ codes "DAAA" ∷ codes "DAAD" ∷ codes "DADA" ∷ codes "DADD" ∷ codes "DDAA" ∷ codes "DDAD" ∷ codes "DDDA" ∷ codes "DDDD" ∷ []
 
-abbrev pub path_row : ℕ → Option Row
+abbrev pub path_row : ℕ → Option MacroRow
 path_row s =
     if nat_le caar_word s && nat_le s cddddr_word then option_map Path (slice_get path_text (s - caar_word))
     else if nat_eq s first_word then Some (Path (codes "A"))
@@ -82,7 +83,7 @@ path_row s =
     else if nat_eq s rest_word then Some (Path (codes "D"))
     else None
 
-abbrev pub arithmetic_row : ℕ → Option Row
+abbrev pub arithmetic_row : ℕ → Option MacroRow
 arithmetic_row s =
     if nat_eq s plus_word then Some (Chain binary_plus_word (Integer (pos 0)))
     else if nat_eq s times_word then Some (Chain binary_times_word (Integer (pos 1)))
@@ -98,7 +99,7 @@ arithmetic_row s =
     else path_row s
 
 -- a macro
-abbrev pub macro_row : ℕ → Option Row
+abbrev pub macro_row : ℕ → Option MacroRow
 macro_row s =
     if nat_eq s and_word then Some And
     else if nat_eq s or_word then Some Or
@@ -134,13 +135,13 @@ pub data Kind : Type 0 where
 
 -- what a guard asks: that a form holds, or the test of a type
 pub data GuardItem : Type 0 where
-  Holds : Object ℕ → GuardItem
+  FormHolds : Object ℕ → GuardItem
   Meets : Core → GuardItem
 
 pub data Part : Type 0 where
   Form : Object ℕ → Part
   Ready : Core → Part
-  Rest : Row → List (Object ℕ) → Part  -- what is left of a row
+  Rest : MacroRow → List (Object ℕ) → Part  -- what is left of a row
   Guard : List GuardItem → Part  -- that all of these hold
 
 -- what stands at a place: a whole core form, or a node
@@ -253,7 +254,7 @@ module _ (symbols : List QualifiedName) where
 
   abbrev pub with_local_made : List (Object ℕ) → Option Made
   with_local_made (x ∷ (f ∷ [])) =
-      option_and_then (λ object. option_map (λ p. node (WithLocalNode object p.0) (Form p.1 ∷ Form p.2 ∷ [])) (option_and_then mv_let_parts (written_mv_let f)))
+      option_and_then (λ stobj. option_map (λ p. node (WithLocalNode stobj p.0) (Form p.1 ∷ Form p.2 ∷ [])) (option_and_then mv_let_parts (written_mv_let f)))
       (variable_name symbols x)
   with_local_made os = None
 
@@ -276,15 +277,15 @@ module _ (symbols : List QualifiedName) where
   are_cond_clauses (c ∷ cs) = is_cond_clause (is_none cs) (elements c) && are_cond_clauses cs
 
   abbrev pub is_default : Object ℕ → Bool
-  is_default k = is truth k || is otherwise_word k
+  is_default key = is truth key || is otherwise_word key
 
   -- `(key result)`; the default comes last
   abbrev pub is_case_clause : Bool → Option (List (Object ℕ)) → Bool
   is_case_clause last None = false
   is_case_clause last (Some []) = false
-  is_case_clause last (Some (k ∷ [])) = false
-  is_case_clause last (Some (k ∷ (r ∷ []))) = last || not (is_default k)
-  is_case_clause last (Some (k ∷ (r ∷ (o ∷ os)))) = false
+  is_case_clause last (Some (key ∷ [])) = false
+  is_case_clause last (Some (key ∷ (r ∷ []))) = last || not (is_default key)
+  is_case_clause last (Some (key ∷ (r ∷ (o ∷ os)))) = false
 
   abbrev pub are_case_clauses : List (Object ℕ) → Bool
   are_case_clauses [] = true
@@ -297,10 +298,10 @@ module _ (symbols : List QualifiedName) where
 
   -- the test of a key of CASE
   abbrev pub key_test : Object ℕ → Core
-  key_test k = call_core (if is_pair k then member_equal_word else eql_word) (Var hidden_variable_word ∷ Const k ∷ [])
+  key_test key = call_core (if is_pair key then member_equal_word else eql_word) (Var hidden_variable_word ∷ Const key ∷ [])
 
   abbrev pub case_layer : Option (List (Object ℕ)) → List (Object ℕ) → Made
-  case_layer (Some (k ∷ (r ∷ []))) cs = if is_default k then Again r else if_made (Ready (key_test k)) (Form r) (Rest Clauses cs)
+  case_layer (Some (key ∷ (r ∷ []))) cs = if is_default key then Again r else if_made (Ready (key_test key)) (Form r) (Rest Clauses cs)
   case_layer c cs = leaf false_core
 
   -- ---- MBE and THE
@@ -327,13 +328,13 @@ module _ (symbols : List QualifiedName) where
   path_made (l ∷ (m ∷ ls)) x = Some (call_made (letter_function l) (Rest (Path (m ∷ ls)) (x ∷ []) ∷ []))
 
   -- a function of two over the first and over what is left
-  abbrev pub chained : ℕ → Row → List (Object ℕ) → Object ℕ → Made
+  abbrev pub chained : ℕ → MacroRow → List (Object ℕ) → Object ℕ → Made
   chained f row [] unit = leaf (Const unit)
   chained f row (x ∷ []) unit = Again x
   chained f row (x ∷ (y ∷ ys)) unit = call_made f (Form x ∷ Rest row (y ∷ ys) ∷ [])
 
   -- what a row makes of what stands behind its head; None where the shape is wrong
-  unfoldable pub made_of : Row → List (Object ℕ) → Option Made
+  unfoldable pub made_of : MacroRow → List (Object ℕ) → Option Made
   made_of Quote (o ∷ []) = Some (leaf (Const o))
   made_of If (a ∷ (b ∷ (c ∷ []))) = Some (if_made (Form a) (Form b) (Form c))
   made_of Let os = let_made os

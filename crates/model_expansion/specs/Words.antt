@@ -2,6 +2,7 @@
 use Rattle.std.specs.Prelude.{◌≡◌, ℕ, List, [], ◌∷◌, map, codes}
 use Rattle.model_symbols.specs.Symbols.{QualifiedName, symbol_at}
 use Rattle.model_symbols.specs.Opening.{opening, words}
+use Rattle.model_eval.specs.Evaluated.{stobj_let_word}
 
 abbrev pub if_word : ℕ
 if_word = 3
@@ -176,9 +177,6 @@ mv_word = 119
 
 abbrev pub mv_let_word : ℕ
 mv_let_word = 120
-
-abbrev pub stobj_let_word : ℕ
-stobj_let_word = 121
 
 abbrev pub with_local_word : ℕ
 with_local_word = 122

@@ -6,8 +6,8 @@ use Rattle.model_symbols.specs.Opening.{truth, nil}
 use Rattle.model_terms.specs.Cores.{Core, cores, count}
 use Rattle.model_expansion.specs.Faults.{ExpandFault}
 use Rattle.model_expansion.specs.TypeTerms.{false_core}
-use Rattle.model_expansion.specs.Layers.{Kind, IfNode, LetNode, MvNode, MvLetNode, StobjLetNode, WithLocalNode, MustBeEqualNode, CallNode, GuardItem, Holds, Meets, Part, Form, Ready, Rest, Guard, Found, Leaf, Node}
-use Rattle.model_expansion.specs.Expansion.{Setting, Progress, Expanded, Makes, Fails, then_make, part_at, joined, ready_fault, ready_found, item_part, guard_found, part_found, Grow, grown_all, grown_found, grown}
+use Rattle.model_expansion.specs.Layers.{Kind, IfNode, LetNode, MvNode, MvLetNode, StobjLetNode, WithLocalNode, MustBeEqualNode, CallNode, GuardItem, FormHolds, Meets, Part, Form, Ready, Rest, Guard, Found, Leaf, Node}
+use Rattle.model_expansion.specs.Expansion.{Setting, Progress, Expanded, Makes, Fails, then_make, part_at, core_of_node, ready_fault, ready_found, item_part, guard_found, part_found, Grow, grown_all, grown_found, grown}
 use Rattle.model_expansion_forms.specs.Nodes.{EachNode, AllNodes, IsOwnCall, HasForms, HasSeveral, HasConstant}
 use Rattle.model_expansion_forms.specs.Rows.{HasRowFunctions}
 use Rattle.model_expansion_forms.proofs.NodeLemmas.{IsShaped, IsNode, IsGood, ready_good, part_each, take_each, last_each, count_cores, count_taken}
@@ -27,12 +27,12 @@ module _ (x : Setting) (P : ℕ → ℕ → Type 0) (n : ℕ) (keeps : Keeps P x
   ready_place left f p (Some fault) e h = tt
 
   item_good : (p : Progress) (g : GuardItem) → IsGoodItem x.world (P (size p)) g → IsGoodPart x.world (P (size p)) (item_part x g)
-  item_good p (Holds o) h = h
+  item_good p (FormHolds o) h = h
   item_good p (Meets f) h = h
 
   guard_place : (left : ℕ) (gs : List GuardItem) (p : Progress) → n ≤ size p → AreGoodItems x.world (P (size p)) gs → AtPlace p (guard_found x left gs p)
   guard_place left [] p enough h = (omega arith, good_const x.world (P (size p)) (Symbol truth) (true_later x P n keeps r p enough))
-  guard_place left (Holds o ∷ []) p enough h = settle_place x P n keeps r o p enough h.0
+  guard_place left (FormHolds o ∷ []) p enough h = settle_place x P n keeps r o p enough h.0
   guard_place left (Meets f ∷ []) p enough h = ready_place left f p (ready_fault x f left) refl h.0
   guard_place left (g ∷ (k ∷ gs)) p enough h =
       (omega arith, (tt, (item_good p g h.0, (h.1, (shaped_const (P (size p)) (Symbol nil) (nil_later x P n keeps r p enough), tt)))))
@@ -58,21 +58,21 @@ module _ (x : Setting) (P : ℕ → ℕ → Type 0) (n : ℕ) (keeps : Keeps P x
     part_here : (fs : List Core) (k : ℕ) → AllNodes NodeHere (cores fs) → EachNode NodeHere (part_at fs k)
     part_here fs k h = part_each NodeHere fs k false_here h
 
-    joined_good : (k : Kind) (fs : List Core) (m : ℕ) → length fs ≡ m → HasParts x.world (P (size p)) k m → AllNodes NodeHere (cores fs) → IsGood x.world (P (size p)) (joined k fs)
-    joined_good IfNode fs m e t h = (plain_node (joined IfNode fs) tt tt tt tt, part_here fs 0 h, part_here fs 1 h, part_here fs 2 h)
+    joined_good : (k : Kind) (fs : List Core) (m : ℕ) → length fs ≡ m → HasParts x.world (P (size p)) k m → AllNodes NodeHere (cores fs) → IsGood x.world (P (size p)) (core_of_node k fs)
+    joined_good IfNode fs m e t h = (plain_node (core_of_node IfNode fs) tt tt tt tt, part_here fs 0 h, part_here fs 1 h, part_here fs 2 h)
     joined_good (LetNode names) fs m e t h =
-        (plain_node (joined (LetNode names) fs) tt (count_taken (length names) fs (omega (arith, e, t))) tt tt, take_each NodeHere (length names) fs h, part_here fs (length names) h)
+        (plain_node (core_of_node (LetNode names) fs) tt (count_taken (length names) fs (omega (arith, e, t))) tt tt, take_each NodeHere (length names) fs h, part_here fs (length names) h)
     joined_good MvNode fs m e t h =
         let many : count (cores fs) ≡ length fs = count_cores fs in
-        (plain_node (joined MvNode fs) tt tt (omega (arith, e, t, many)) tt, h)
-    joined_good (MvLetNode names) fs m e t h = (plain_node (joined (MvLetNode names) fs) tt tt t tt, part_here fs 0 h, part_here fs 1 h)
+        (plain_node (core_of_node MvNode fs) tt tt (omega (arith, e, t, many)) tt, h)
+    joined_good (MvLetNode names) fs m e t h = (plain_node (core_of_node (MvLetNode names) fs) tt tt t tt, part_here fs 0 h, part_here fs 1 h)
     joined_good (StobjLetNode names vars) fs m e t h =
-        (plain_node (joined (StobjLetNode names vars) fs) tt (count_taken (length names) fs (omega (arith, e, t))) tt tt, take_each NodeHere (length names) fs h, part_here fs (length names) h, part_here fs (length names + 1) h)
-    joined_good (WithLocalNode object names) fs m e t h = (plain_node (joined (WithLocalNode object names) fs) tt tt t tt, part_here fs 0 h, part_here fs 1 h)
-    joined_good MustBeEqualNode fs m e t h = (plain_node (joined MustBeEqualNode fs) tt tt tt tt, part_here fs 0 h, part_here fs 1 h)
+        (plain_node (core_of_node (StobjLetNode names vars) fs) tt (count_taken (length names) fs (omega (arith, e, t))) tt tt, take_each NodeHere (length names) fs h, part_here fs (length names) h, part_here fs (length names + 1) h)
+    joined_good (WithLocalNode stobj names) fs m e t h = (plain_node (core_of_node (WithLocalNode stobj names) fs) tt tt t tt, part_here fs 0 h, part_here fs 1 h)
+    joined_good MustBeEqualNode fs m e t h = (plain_node (core_of_node MustBeEqualNode fs) tt tt tt tt, part_here fs 0 h, part_here fs 1 h)
     joined_good (CallNode f) fs m e t h =
         let many : m ≡ count (cores fs) = sym e ∙ sym (count_cores fs) in
-        (plain_node (joined (CallNode f) fs) (subst (λ (k : ℕ). HasParts x.world (P (size p)) (CallNode f) k) many t) tt tt tt, h)
+        (plain_node (core_of_node (CallNode f) fs) (subst (λ (k : ℕ). HasParts x.world (P (size p)) (CallNode f) k) many t) tt tt tt, h)
 
   -- ---- all places
 
@@ -112,7 +112,7 @@ module _ (x : Setting) (P : ℕ → ℕ → Type 0) (n : ℕ) (keeps : Keeps P x
         (last_each (IsNode x.world (P (size after))) done f (done_later p after l done k) good))
 
     node_good : (k : Kind) (m : ℕ) (p : Progress) (e : Expanded (List Core)) → n ≤ size p → HasParts x.world (P (size p)) k m → AreGoodForms m p e
-        → IsGoodForm p (then_make e (λ fs after. Makes (joined k fs) after))
+        → IsGoodForm p (then_make e (λ fs after. Makes (core_of_node k fs) after))
     node_good k m p (Makes fs q) enough t h = (h.0, joined_good q (omega (arith, enough, h.0)) k fs m h.1 (again k t) h.2)
       where
         again : (k : Kind) → HasParts x.world (P (size p)) k m → HasParts x.world (P (size q)) k m
@@ -121,7 +121,7 @@ module _ (x : Setting) (P : ℕ → ℕ → Type 0) (n : ℕ) (keeps : Keeps P x
         again MvNode t = t
         again (MvLetNode names) t = t
         again (StobjLetNode names vars) t = t
-        again (WithLocalNode object names) t = t
+        again (WithLocalNode stobj names) t = t
         again MustBeEqualNode t = t
         again (CallNode f) t = t
     node_good k m p (Fails fault q) enough t h = tt

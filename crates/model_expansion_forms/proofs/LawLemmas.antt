@@ -7,7 +7,7 @@ use Rattle.model_terms.specs.Cores.{Core, Var, Const, If, Let, Mv, MvLet, StobjL
 use Rattle.model_terms.specs.Worlds.{World, OptionalFormal, MacroFormals, Macro, definition}
 use Rattle.model_eval.specs.Outcomes.{Outcome, Gives, Stops, Unknown}
 use Rattle.model_expansion.specs.TypeTerms.{depth_of, type_term, declared_test}
-use Rattle.model_expansion.specs.Layers.{GuardItem, Holds, Meets, Form, Guard}
+use Rattle.model_expansion.specs.Layers.{GuardItem, FormHolds, Meets, Form, Guard}
 use Rattle.model_expansion.specs.Expansion.{deepest_core, Setting, Progress, Expanded, Makes, macro_values, body_value, expanded, expanded_guard}
 use Rattle.model_expansion_laws.proofs.NestingLemmas.{cores_are_not_too_deep}
 use Rattle.model_expansion_forms.specs.Nodes.{EachNode, IsOwnCall, HasForms, HasSeveral, HasConstant, IsBelow, IsWellCalled}
@@ -41,7 +41,7 @@ any_constant (Let names bound body) = tt
 any_constant (Mv parts) = tt
 any_constant (MvLet names bound body) = tt
 any_constant (StobjLet names bound vars producer consumer) = tt
-any_constant (WithLocal object names producer body) = tt
+any_constant (WithLocal stobj names producer body) = tt
 any_constant (MustBeEqual logic exec) = tt
 any_constant (Call f actuals) = tt
 
@@ -64,7 +64,7 @@ shaped_of f h k = each_both HasForms HasSeveral (IsShapedNode Any) (λ g a b. re
 
 any_items : (w : World) (gs : List GuardItem) → AreShapedItems gs → AreGoodItems w Any gs
 any_items w [] h = tt
-any_items w (Holds o ∷ gs) h = (any_symbols o, any_items w gs h.1)
+any_items w (FormHolds o ∷ gs) h = (any_symbols o, any_items w gs h.1)
 any_items w (Meets f ∷ gs) h = (shaped_of f h.0.0 h.0.1, any_items w gs h.1)
 
 -- ---- known symbols
@@ -120,7 +120,7 @@ shaped_with P f h k c =
 
 known_items : (w : World) (n : ℕ) (gs : List GuardItem) → AreShapedItems gs → AreKnownItems n gs → AreGoodItems w (IsBelow n) gs
 known_items w n [] h k = tt
-known_items w n (Holds o ∷ gs) h k = (k.0, known_items w n gs h.1 k.1)
+known_items w n (FormHolds o ∷ gs) h k = (k.0, known_items w n gs h.1 k.1)
 known_items w n (Meets f ∷ gs) h k = (shaped_with (IsBelow n) f h.0.0 h.0.1 k.0, known_items w n gs h.1 k.1)
 
 -- ---- the laws

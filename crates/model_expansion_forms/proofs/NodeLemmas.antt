@@ -23,7 +23,7 @@ module _ (P Q : Core → Type 0) (h : (f : Core) → P f → Q f) where
     each_wider (MvLet names bound body) n = (h (MvLet names bound body) n.0, each_wider bound n.1, each_wider body n.2)
     each_wider (StobjLet names bound vars producer consumer) n =
         (h (StobjLet names bound vars producer consumer) n.0, all_wider bound n.1, each_wider producer n.2, each_wider consumer n.3)
-    each_wider (WithLocal object names producer body) n = (h (WithLocal object names producer body) n.0, each_wider producer n.1, each_wider body n.2)
+    each_wider (WithLocal stobj names producer body) n = (h (WithLocal stobj names producer body) n.0, each_wider producer n.1, each_wider body n.2)
     each_wider (MustBeEqual logic exec) n = (h (MustBeEqual logic exec) n.0, each_wider logic n.1, each_wider exec n.2)
     each_wider (Call f actuals) n = (h (Call f actuals) n.0, all_wider actuals n.1)
 
@@ -44,7 +44,7 @@ module _ (P Q R : Core → Type 0) (h : (f : Core) → P f → Q f → R f) wher
     each_both (MvLet names bound body) n m = (h (MvLet names bound body) n.0 m.0, each_both bound n.1 m.1, each_both body n.2 m.2)
     each_both (StobjLet names bound vars producer consumer) n m =
         (h (StobjLet names bound vars producer consumer) n.0 m.0, all_both bound n.1 m.1, each_both producer n.2 m.2, each_both consumer n.3 m.3)
-    each_both (WithLocal object names producer body) n m = (h (WithLocal object names producer body) n.0 m.0, each_both producer n.1 m.1, each_both body n.2 m.2)
+    each_both (WithLocal stobj names producer body) n m = (h (WithLocal stobj names producer body) n.0 m.0, each_both producer n.1 m.1, each_both body n.2 m.2)
     each_both (MustBeEqual logic exec) n m = (h (MustBeEqual logic exec) n.0 m.0, each_both logic n.1 m.1, each_both exec n.2 m.2)
     each_both (Call f actuals) n m = (h (Call f actuals) n.0 m.0, all_both actuals n.1 m.1)
 
@@ -116,9 +116,9 @@ module _ (x : Setting) where
           let h = below_room left _ e in
           let k = other_none (ready_faults x bound (left - 1)) _ h in
           (own_node (StobjLet names bound vars producer consumer) tt s.0, all_ready_good bound (left - 1) (first_none _ _ h) s.1, ready_good producer (left - 1) (first_none _ _ k) s.2, ready_good consumer (left - 1) (other_none (ready_fault x producer (left - 1)) _ k) s.3)
-      ready_good (WithLocal object names producer body) left e s =
+      ready_good (WithLocal stobj names producer body) left e s =
           let h = below_room left _ e in
-          (own_node (WithLocal object names producer body) tt s.0, ready_good producer (left - 1) (first_none _ _ h) s.1, ready_good body (left - 1) (other_none (ready_fault x producer (left - 1)) _ h) s.2)
+          (own_node (WithLocal stobj names producer body) tt s.0, ready_good producer (left - 1) (first_none _ _ h) s.1, ready_good body (left - 1) (other_none (ready_fault x producer (left - 1)) _ h) s.2)
       ready_good (MustBeEqual logic exec) left e s =
           let h = below_room left _ e in
           (own_node (MustBeEqual logic exec) tt s.0, ready_good logic (left - 1) (first_none _ _ h) s.1, ready_good exec (left - 1) (other_none (ready_fault x logic (left - 1)) _ h) s.2)

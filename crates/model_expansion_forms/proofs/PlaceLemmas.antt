@@ -11,14 +11,14 @@ use Rattle.model_prims.specs.Kinds.{by_number}
 use Rattle.model_terms.specs.Cores.{Core, Const}
 use Rattle.model_terms.specs.Worlds.{MacroFormals, Definition, Primitive, Defined, Macro, Constant, Concrete, Generated, Abstract, OfAbstract, Named, Signed, definition}
 use Rattle.model_eval.specs.Outcomes.{Steps, Outcome, Gives, Stops, Unknown}
-use Rattle.model_eval.specs.Scopes.{single, object_of}
+use Rattle.model_eval.specs.Variables.{single, object_of}
 use Rattle.model_eval.specs.Checked.{begun}
 use Rattle.model_eval_laws.specs.Counting.{Counts}
 use Rattle.model_eval_laws.proofs.CountLemmas.{counts_calls}
 use Rattle.model_expansion.specs.Forms.{elements, is_self_evaluating}
 use Rattle.model_expansion.specs.Faults.{Arity, MacroStopped}
-use Rattle.model_expansion.specs.Layers.{Row, core_row, macro_row, CallNode, Form, Found, Node, Made, Again, Stays, made_of}
-use Rattle.model_expansion.specs.Expansion.{Setting, Progress, Expanded, Makes, Fails, then_make, counting, macro_values, Look, Stands, Bad, Use, UserUse, Settle, settles, out_of_steps, again, core_look, call_look, arity_of, function_look, defined_look, variable_or, symbol_look, macro_look, headed_look, list_look, look_at, built, body_value, used, looked, settled, settle, row_found}
+use Rattle.model_expansion.specs.Layers.{MacroRow, core_row, macro_row, CallNode, Form, Found, Node, Made, Again, Stays, made_of}
+use Rattle.model_expansion.specs.Expansion.{Setting, Progress, Expanded, Makes, Fails, then_make, counting_expansion, macro_values, Look, Stands, Bad, Use, UserUse, Settle, settles, out_of_steps, again, core_look, call_look, arity_of, function_look, defined_look, variable_or, symbol_look, macro_look, headed_look, list_look, look_at, built, body_value, used, looked, settled, settle, row_found}
 use Rattle.model_expansion_laws.proofs.CountLemmas.{shaped, with_values}
 use Rattle.model_expansion_forms.specs.Rows.{Takes, HasRowFunctions}
 use Rattle.model_expansion_forms.proofs.NodeLemmas.{IsGood}
@@ -102,16 +102,16 @@ module _ (x : Setting) (P : ℕ → ℕ → Type 0) (n : ℕ) (keeps : Keeps P x
   look_defined p s d (Some (Signed name formals signature executable)) e h =
       look_function p s d (arity_of (Some (Signed name formals signature executable))) (ap arity_of e) h
 
-  look_macro : (p : Progress) (s : ℕ) (d : Object ℕ) (row : Option Row) → IsGoodRowIfAny x.world (P (size p)) row → Has p d → IsGoodLook p (macro_look x p.symbols s d row)
+  look_macro : (p : Progress) (s : ℕ) (d : Object ℕ) (row : Option MacroRow) → IsGoodRowIfAny x.world (P (size p)) row → Has p d → IsGoodLook p (macro_look x p.symbols s d row)
   look_macro p s d None g h = look_defined p s d (definition x.world s) refl h
   look_macro p s d (Some row) g h = (g, h)
 
-  good_option : (p : Progress) → n ≤ size p → (row : Row) (os : Option (List (Object ℕ))) → IsGoodRow x.world (P (size p)) row → AllHaveIfAny (P (size p)) os
+  good_option : (p : Progress) → n ≤ size p → (row : MacroRow) (os : Option (List (Object ℕ))) → IsGoodRow x.world (P (size p)) row → AllHaveIfAny (P (size p)) os
       → IsGoodIfAny x.world (P (size p)) (option_and_then (made_of p.symbols row) os)
   good_option p enough row None g h = tt
   good_option p enough row (Some os) g h = good_made x.world (P (size p)) p.symbols (true_later p enough) (nil_later p enough) r row os g h
 
-  look_headed : (p : Progress) → n ≤ size p → (s : ℕ) (d : Object ℕ) (row : Option Row) → IsGoodRowIfAny x.world (P (size p)) row → Has p d → IsGoodLook p (headed_look x p.symbols s d row)
+  look_headed : (p : Progress) → n ≤ size p → (s : ℕ) (d : Object ℕ) (row : Option MacroRow) → IsGoodRowIfAny x.world (P (size p)) row → Has p d → IsGoodLook p (headed_look x p.symbols s d row)
   look_headed p enough s d None g h = look_macro p s d (macro_row s) (macro_good x.world (P (size p)) r (nil_later p enough) s) h
   look_headed p enough s d (Some row) g h =
       look_core p s (option_and_then (made_of p.symbols row) (elements d)) (good_option p enough row (elements d) g (elements_have (P (size p)) d h))
@@ -176,7 +176,7 @@ module _ (x : Setting) (P : ℕ → ℕ → Type 0) (n : ℕ) (keeps : Keeps P x
   used_outcome p enough s name formals body e None h = tt
   used_outcome p enough s name formals body e (Some os) h = values_outcome p enough s name formals body e os h (macro_values p.symbols formals os) refl
 
-  counting_outcome : (p : Progress) (go : Progress → Expanded Made) → ((q : Progress) → q.symbols ≡ p.symbols → IsGoodOutcome q (go q)) → IsGoodOutcome p (counting x.steps go p)
+  counting_outcome : (p : Progress) (go : Progress → Expanded Made) → ((q : Progress) → q.symbols ≡ p.symbols → IsGoodOutcome q (go q)) → IsGoodOutcome p (counting_expansion x.steps go p)
   counting_outcome p go h = by_test (nat_lt p.calls x.steps)
     where
       by_test : (b : Bool) → IsGoodOutcome p (if b then go (record p { calls = p.calls + 1; outer = p.outer + 1 }) else Fails (MacroStopped Steps None) p)
@@ -227,5 +227,5 @@ module _ (x : Setting) (P : ℕ → ℕ → Type 0) (n : ℕ) (keeps : Keeps P x
   row_place (Some (Again o)) p enough h = settle_place o p enough h
   row_place (Some (Stays f)) p enough h = (omega arith, h)
 
-  pub rest_place : (row : Row) (os : List (Object ℕ)) (p : Progress) → n ≤ size p → IsGoodRow x.world (P (size p)) row → AllHave (P (size p)) os → IsGoodPlace p (row_found x (made_of p.symbols row os) p)
+  pub rest_place : (row : MacroRow) (os : List (Object ℕ)) (p : Progress) → n ≤ size p → IsGoodRow x.world (P (size p)) row → AllHave (P (size p)) os → IsGoodPlace p (row_found x (made_of p.symbols row os) p)
   rest_place row os p enough g h = row_place (made_of p.symbols row os) p enough (good_made x.world (P (size p)) p.symbols (true_later p enough) (nil_later p enough) r row os g h)

@@ -11,7 +11,7 @@ use Rattle.model_terms.specs.Worlds.{World}
 use Rattle.model_expansion.specs.Forms.{elements, is, are_different, is_key, variable_name}
 use Rattle.model_expansion.specs.TypeTerms.{type_term, false_core}
 use Rattle.model_expansion.specs.Words.{car_word, cdr_word, hidden_variable_word}
-use Rattle.model_expansion.specs.Layers.{Row, Quote, If, Let, Mv, MvLet, StobjLet, WithLocal, MustBeEqual, And, Or, Cond, Case, LetStar, Listing, ListStar, Chain, Minus, Added, Two, Turned, Negated, Path, Then, Mbt, Mbe, The, OrTest, CondTest, Clauses, Bindings, Checked, Kind, IfNode, LetNode, MvNode, MvLetNode, StobjLetNode, WithLocalNode, MustBeEqualNode, CallNode, GuardItem, Holds, Meets, Part, Form, Ready, Rest, Guard, Found, Leaf, Node, Made, Again, Stays, node, if_made, hidden_let, binding, bindings, variables, body_of, bound_names, bound_forms, let_of, let_made, let_star_made, mv_let_parts, mv_let_made, stobj_let_of, stobj_let_made, written_mv_let, with_local_made, are_cond_clauses, cond_layer, is_default, key_test, are_case_clauses, case_layer, mbe_made, checked_made, letter_function, path_made, chained, made_of}
+use Rattle.model_expansion.specs.Layers.{MacroRow, Quote, If, Let, Mv, MvLet, StobjLet, WithLocal, MustBeEqual, And, Or, Cond, Case, LetStar, Listing, ListStar, Chain, Minus, Added, Two, Turned, Negated, Path, Then, Mbt, Mbe, The, OrTest, CondTest, Clauses, Bindings, Checked, Kind, IfNode, LetNode, MvNode, MvLetNode, StobjLetNode, WithLocalNode, MustBeEqualNode, CallNode, GuardItem, FormHolds, Meets, Part, Form, Ready, Rest, Guard, Found, Leaf, Node, Made, Again, Stays, node, if_made, hidden_let, binding, bindings, variables, body_of, bound_names, bound_forms, let_of, let_made, let_star_made, mv_let_parts, mv_let_made, stobj_let_of, stobj_let_made, written_mv_let, with_local_made, are_cond_clauses, cond_layer, is_default, key_test, are_case_clauses, case_layer, mbe_made, checked_made, letter_function, path_made, chained, made_of}
 use Rattle.model_expansion_forms.specs.Rows.{Takes, HasRowFunctions}
 use Rattle.model_expansion_forms.proofs.NodeLemmas.{IsShaped, IsGood}
 use Rattle.model_expansion_forms.proofs.PartLemmas.{AllHave, AllHaveIfAny, HasIfAny, elements_have, both_have, body_has, BoundHave, BoundHaveIfAny, BoundHasIfAny, binding_has, bindings_have, IsMvLetIfAny, mv_let_has, written_has}
@@ -21,7 +21,7 @@ use Rattle.model_expansion_forms.proofs.TypeLemmas.{shaped_var, shaped_const, sh
 
 module _ (w : World) (P : ℕ → Type 0) where
   -- what a row calls takes so many arguments
-  abbrev pub IsGoodRow : Row → Type 0
+  abbrev pub IsGoodRow : MacroRow → Type 0
   IsGoodRow (Chain f unit) = Takes w f 2 × Symbols P unit
   IsGoodRow (Two f) = Takes w f 2
   IsGoodRow (Turned f) = Takes w f 2
@@ -29,7 +29,7 @@ module _ (w : World) (P : ℕ → Type 0) where
   IsGoodRow row = Unit {0}
 
   abbrev pub IsGoodItem : GuardItem → Type 0
-  IsGoodItem (Holds o) = Symbols P o
+  IsGoodItem (FormHolds o) = Symbols P o
   IsGoodItem (Meets f) = IsShaped P f
 
   abbrev pub AreGoodItems : List GuardItem → Type 0
@@ -53,7 +53,7 @@ module _ (w : World) (P : ℕ → Type 0) where
   HasParts MvNode n = 2 ≤ n
   HasParts (MvLetNode names) n = 2 ≤ length names
   HasParts (StobjLetNode names vars) n = n ≡ length names + 2
-  HasParts (WithLocalNode object names) n = 2 ≤ length names
+  HasParts (WithLocalNode stobj names) n = 2 ≤ length names
   HasParts MustBeEqualNode n = Unit {0}
   HasParts (CallNode f) n = Takes w f n
 
@@ -178,10 +178,10 @@ module _ (w : World) (P : ℕ → Type 0) (symbols : List QualifiedName) where
     good_with_local (x ∷ (f ∷ [])) h = go (variable_name symbols x) (option_and_then (mv_let_parts symbols) (written_mv_let symbols f)) (written_has P symbols f h.1.0)
       where
         go : (v : Option ℕ) (m : Option (List ℕ × Object ℕ × Object ℕ)) → IsMvLetIfAny P m
-            → IsGoodIfAny w P (option_and_then (λ object. option_map (λ p. node (WithLocalNode object p.0) (Form p.1 ∷ Form p.2 ∷ [])) m) v)
+            → IsGoodIfAny w P (option_and_then (λ stobj. option_map (λ p. node (WithLocalNode stobj p.0) (Form p.1 ∷ Form p.2 ∷ [])) m) v)
         go None m k = tt
-        go (Some object) None k = tt
-        go (Some object) (Some p) k = (k.0, (k.1, (k.2, tt)))
+        go (Some stobj) None k = tt
+        go (Some stobj) (Some p) k = (k.0, (k.1, (k.2, tt)))
     good_with_local (x ∷ (f ∷ (o ∷ os))) h = tt
 
     -- ---- macros
@@ -239,7 +239,7 @@ module _ (w : World) (P : ℕ → Type 0) (symbols : List QualifiedName) where
       good_path (l ∷ []) x h = (letter_takes l, (h, tt))
       good_path (l ∷ (m ∷ ls)) x h = (letter_takes l, ((tt, (h, tt)), tt))
 
-      good_chained : (f : ℕ) (row : Row) (os : List (Object ℕ)) (unit : Object ℕ) → Takes w f 2 → Symbols P unit → IsGoodRow w P row → AllHave P os → IsGoodMade w P (chained symbols f row os unit)
+      good_chained : (f : ℕ) (row : MacroRow) (os : List (Object ℕ)) (unit : Object ℕ) → Takes w f 2 → Symbols P unit → IsGoodRow w P row → AllHave P os → IsGoodMade w P (chained symbols f row os unit)
       good_chained f row [] unit t u g h = good_const w P unit u
       good_chained f row (x ∷ []) unit t u g h = h.0
       good_chained f row (x ∷ (y ∷ ys)) unit t u g h = (t, (h.0, ((g, h.1), tt)))
@@ -258,7 +258,7 @@ module _ (w : World) (P : ℕ → Type 0) (symbols : List QualifiedName) where
 
       -- ---- all rows
 
-      pub good_made : (row : Row) (os : List (Object ℕ)) → IsGoodRow w P row → AllHave P os → IsGoodIfAny w P (made_of symbols row os)
+      pub good_made : (row : MacroRow) (os : List (Object ℕ)) → IsGoodRow w P row → AllHave P os → IsGoodIfAny w P (made_of symbols row os)
       unfolding made_of
       good_made Quote (o ∷ []) g h = good_const w P o h.0
       good_made If (a ∷ (b ∷ (c ∷ []))) g h = (tt, h)

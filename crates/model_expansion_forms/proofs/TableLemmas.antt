@@ -7,14 +7,15 @@ use Rattle.model_symbols.specs.Opening.{nil, quote}
 use Rattle.model_lists.specs.Types.{member_word, and_word, or_word}
 use Rattle.model_terms.specs.Cores.{Core, Var, Const, If, Let, Mv, MvLet, StobjLet, WithLocal, MustBeEqual, Call}
 use Rattle.model_terms.specs.Worlds.{World}
-use Rattle.model_expansion.specs.Words.{if_word, let_word, mv_word, mv_let_word, stobj_let_word, with_local_word, must_be_equal_word, let_star_word, cond_word, case_word, list_word, list_star_word, append_word, member_eq_word, assoc_word, assoc_eq_word, union_eq_word, prog2_word, mbt_word, mbe_word, the_word, plus_word, times_word, minus_word, add_one_word, subtract_one_word, above_word, at_most_word, at_least_word, logand_word, logior_word, logxor_word, caar_word, cddddr_word, first_word, second_word, third_word, fourth_word, fifth_word, rest_word}
+use Rattle.model_expansion.specs.Words.{if_word, let_word, mv_word, mv_let_word, with_local_word, must_be_equal_word, let_star_word, cond_word, case_word, list_word, list_star_word, append_word, member_eq_word, assoc_word, assoc_eq_word, union_eq_word, prog2_word, mbt_word, mbe_word, the_word, plus_word, times_word, minus_word, add_one_word, subtract_one_word, above_word, at_most_word, at_least_word, logand_word, logior_word, logxor_word, caar_word, cddddr_word, first_word, second_word, third_word, fourth_word, fifth_word, rest_word}
 use Rattle.model_expansion.specs.Layers as layers
-use Rattle.model_expansion.specs.Layers.{Row, Chain, Two, Turned, Negated, Path, core_row, path_text, path_row, arithmetic_row, macro_row, GuardItem, Holds, Meets, Part, Form, Ready, Rest, Guard}
+use Rattle.model_expansion.specs.Layers.{MacroRow, Chain, Two, Turned, Negated, Path, core_row, path_text, path_row, arithmetic_row, macro_row, GuardItem, FormHolds, Meets, Part, Form, Ready, Rest, Guard}
 use Rattle.model_expansion_forms.specs.Nodes.{HasConstant}
 use Rattle.model_expansion_forms.specs.Rows.{HasRowFunctions}
 use Rattle.model_expansion_forms.proofs.NodeLemmas.{each_wider, IsShapedNode, IsShaped, IsNode, IsGood}
 use Rattle.model_expansion_forms.proofs.PartLemmas.{AllHave}
 use Rattle.model_expansion_forms.proofs.RowLemmas.{IsGoodRow, IsGoodItem, AreGoodItems, IsGoodPart, AreGoodParts}
+use Rattle.model_eval.specs.Evaluated.{stobj_let_word}
 
 -- ---- more symbols
 
@@ -37,7 +38,7 @@ module _ (P Q : ℕ → Type 0) (h : (s : ℕ) → P s → Q s) where
   constant_wider (Mv parts) k = tt
   constant_wider (MvLet names bound body) k = tt
   constant_wider (StobjLet names bound vars producer consumer) k = tt
-  constant_wider (WithLocal object names producer body) k = tt
+  constant_wider (WithLocal stobj names producer body) k = tt
   constant_wider (MustBeEqual logic exec) k = tt
   constant_wider (Call f actuals) k = tt
 
@@ -54,7 +55,7 @@ module _ (P Q : ℕ → Type 0) (h : (s : ℕ) → P s → Q s) where
     pub good_wider : (f : Core) → IsGood w P f → IsGood w Q f
     good_wider f k = each_wider (IsNode w P) (IsNode w Q) node_wider f k
 
-    row_wider : (row : Row) → IsGoodRow w P row → IsGoodRow w Q row
+    row_wider : (row : MacroRow) → IsGoodRow w P row → IsGoodRow w Q row
     row_wider layers.Quote k = tt
     row_wider layers.If k = tt
     row_wider layers.Let k = tt
@@ -88,7 +89,7 @@ module _ (P Q : ℕ → Type 0) (h : (s : ℕ) → P s → Q s) where
     row_wider layers.Checked k = tt
 
     item_wider : (g : GuardItem) → IsGoodItem w P g → IsGoodItem w Q g
-    item_wider (Holds o) k = symbols_wider o k
+    item_wider (FormHolds o) k = symbols_wider o k
     item_wider (Meets f) k = shaped_wider f k
 
     items_wider : (gs : List GuardItem) → AreGoodItems w P gs → AreGoodItems w Q gs
@@ -108,12 +109,12 @@ module _ (P Q : ℕ → Type 0) (h : (s : ℕ) → P s → Q s) where
 -- ---- the table
 
 module _ (w : World) (P : ℕ → Type 0) where
-  abbrev pub IsGoodRowIfAny : Option Row → Type 0
+  abbrev pub IsGoodRowIfAny : Option MacroRow → Type 0
   IsGoodRowIfAny None = Unit {0}
   IsGoodRowIfAny (Some row) = IsGoodRow w P row
 
 module _ (w : World) (P : ℕ → Type 0) (r : HasRowFunctions w) (no : P nil) where
-  row_if : (b : Bool) (x y : Option Row) → IsGoodRowIfAny w P x → IsGoodRowIfAny w P y → IsGoodRowIfAny w P (if b then x else y)
+  row_if : (b : Bool) (x y : Option MacroRow) → IsGoodRowIfAny w P x → IsGoodRowIfAny w P y → IsGoodRowIfAny w P (if b then x else y)
   row_if true x y h k = h
   row_if false x y h k = k
 

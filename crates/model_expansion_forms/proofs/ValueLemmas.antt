@@ -8,7 +8,7 @@ use Rattle.model_symbols.specs.Symbols.{QualifiedName}
 use Rattle.model_symbols.specs.Opening.{truth, nil}
 use Rattle.model_terms.specs.Worlds.{OptionalFormal, MacroFormals}
 use Rattle.model_expansion.specs.Forms.{list}
-use Rattle.model_expansion.specs.Expansion.{Taken, supplied_value, optional_values, all_optional_values, key_pairs, names_formal, keys_fit, key_value, all_key_values, keys_taken, last_taken, after_required, macro_values}
+use Rattle.model_expansion.specs.Expansion.{Taken, supplied_value, optional_values, all_optional_values, key_pairs, names_formal, keys_fit, actual_of_key, all_key_values, keys_taken, last_taken, after_required, macro_values}
 use Rattle.model_expansion_forms.proofs.PartLemmas.{AllHave, AllHaveIfAny, HasIfAny, list_has, both_have}
 
 module _ (P : ℕ → Type 0) where
@@ -79,7 +79,7 @@ module _ (P : ℕ → Type 0) (yes : P truth) (no : P nil) where
       go false k = k
 
   module _ (symbols : List QualifiedName) where
-    key_has : (ps : List (Object ℕ × Object ℕ)) → PairsHave ps → (f : OptionalFormal) → HasIfAny P (key_value symbols ps f)
+    key_has : (ps : List (Object ℕ × Object ℕ)) → PairsHave ps → (f : OptionalFormal) → HasIfAny P (actual_of_key symbols ps f)
     key_has ps h f = go (find (λ (p : Object ℕ × Object ℕ). names_formal symbols p.0 f) ps) (found_has (λ (p : Object ℕ × Object ℕ). names_formal symbols p.0 f) ps h)
       where
         go : (p : Option (Object ℕ × Object ℕ)) → PairHasIfAny p → HasIfAny P (option_map (λ (p : Object ℕ × Object ℕ). p.1) p)
@@ -89,7 +89,7 @@ module _ (P : ℕ → Type 0) (yes : P truth) (no : P nil) where
     all_keys_have : (fs : List OptionalFormal) → DefaultsHave P fs → (ps : List (Object ℕ × Object ℕ)) → PairsHave ps → AllHave P (all_key_values symbols fs ps)
     all_keys_have [] d ps h = tt
     all_keys_have (f ∷ fs) d ps h =
-        both_have P (optional_values f (key_value symbols ps f)) (all_key_values symbols fs ps) (optional_has f d.0 (key_value symbols ps f) (key_has ps h f)) (all_keys_have fs d.1 ps h)
+        both_have P (optional_values f (actual_of_key symbols ps f)) (all_key_values symbols fs ps) (optional_has f d.0 (actual_of_key symbols ps f) (key_has ps h f)) (all_keys_have fs d.1 ps h)
 
     keys_have : (fs : List OptionalFormal) → DefaultsHave P fs → (os : List (Object ℕ)) → AllHave P os → AllHaveIfAny P (keys_taken symbols fs os)
     keys_have fs d os h = go (key_pairs os) (pairs_have os h)

@@ -17,7 +17,7 @@ module _ (P : Core → Type 0) where
     EachNode (Mv parts) = P (Mv parts) × AllNodes parts
     EachNode (MvLet names bound body) = P (MvLet names bound body) × EachNode bound × EachNode body
     EachNode (StobjLet names bound vars producer consumer) = P (StobjLet names bound vars producer consumer) × AllNodes bound × EachNode producer × EachNode consumer
-    EachNode (WithLocal object names producer body) = P (WithLocal object names producer body) × EachNode producer × EachNode body
+    EachNode (WithLocal stobj names producer body) = P (WithLocal stobj names producer body) × EachNode producer × EachNode body
     EachNode (MustBeEqual logic exec) = P (MustBeEqual logic exec) × EachNode logic × EachNode exec
     EachNode (Call f actuals) = P (Call f actuals) × AllNodes actuals
 
@@ -40,7 +40,7 @@ HasForms f = Unit {0}
 abbrev pub HasSeveral : Core → Type 0
 HasSeveral (Mv parts) = 2 ≤ count parts
 HasSeveral (MvLet names bound body) = 2 ≤ length names
-HasSeveral (WithLocal object names producer body) = 2 ≤ length names
+HasSeveral (WithLocal stobj names producer body) = 2 ≤ length names
 HasSeveral f = Unit {0}
 
 -- each symbol in a constant has the property

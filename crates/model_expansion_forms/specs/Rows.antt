@@ -7,9 +7,9 @@ use Rattle.model_lists.specs.Types.{cons_word, not_word}
 use Rattle.model_terms.specs.Cores.{Core}
 use Rattle.model_terms.specs.Worlds.{World, OptionalFormal, MacroFormals, Macro, Constant, definition}
 use Rattle.model_eval.specs.Outcomes.{Outcome, Gives, Stops, Unknown}
-use Rattle.model_eval.specs.Scopes.{single, object_of}
+use Rattle.model_eval.specs.Variables.{single, object_of}
 use Rattle.model_expansion.specs.Words.{car_word, cdr_word, below_word, binary_plus_word, binary_times_word, unary_minus_word, binary_logand_word, binary_logior_word, binary_logxor_word, binary_append_word, member_equal_word, assoc_equal_word, union_equal_word, the_check_word}
-use Rattle.model_expansion.specs.Layers.{GuardItem, Holds, Meets}
+use Rattle.model_expansion.specs.Layers.{GuardItem, FormHolds, Meets}
 use Rattle.model_expansion.specs.Expansion.{Setting, Progress, arity_of, body_value}
 use Rattle.model_expansion_forms.specs.Nodes.{EachNode, HasForms, HasSeveral, HasConstant, IsBelow}
 
@@ -40,7 +40,7 @@ pub record HasRowFunctions (w : World) : Type 0 where
 
 -- a test binds as many forms as names, and has two parts where it has several
 abbrev pub IsShapedItem : GuardItem → Type 0
-IsShapedItem (Holds o) = Unit {0}
+IsShapedItem (FormHolds o) = Unit {0}
 IsShapedItem (Meets f) = EachNode HasForms f × EachNode HasSeveral f
 
 abbrev pub AreShapedItems : List GuardItem → Type 0
@@ -49,7 +49,7 @@ AreShapedItems (g ∷ gs) = IsShapedItem g × AreShapedItems gs
 
 -- the symbols of a form, or of the constants in a test, are known
 abbrev pub IsKnownItem : ℕ → GuardItem → Type 0
-IsKnownItem n (Holds o) = Knows n o
+IsKnownItem n (FormHolds o) = Knows n o
 IsKnownItem n (Meets f) = EachNode (HasConstant (IsBelow n)) f
 
 abbrev pub AreKnownItems : ℕ → List GuardItem → Type 0

@@ -15,8 +15,8 @@ use Rattle.model_eval_laws.proofs.Counts.{longer_then, not_less}
 use Rattle.model_eval_laws.proofs.CountLemmas.{counts_calls}
 use Rattle.model_expansion.specs.Forms.{elements}
 use Rattle.model_expansion.specs.Faults.{ExpandFault, MacroArgs, BadShape, MacroStopped, Arity}
-use Rattle.model_expansion.specs.Layers.{Row, core_row, macro_row, CallNode, GuardItem, Holds, Meets, Part, Form, Ready, Rest, Guard, Found, Leaf, Node, Made, Again, Stays, made_of}
-use Rattle.model_expansion.specs.Expansion.{deepest_core, Setting, Progress, progress_after, evaluated_to, Expanded, Makes, Fails, then_make, counting, macro_values, Look, Stands, Bad, Use, UserUse, Settle, settles, out_of_steps, again, core_look, call_look, arity_of, function_look, defined_look, macro_look, headed_look, list_look, look_at, built, body_value, used, looked, settled, settle, row_found, head_fault, if_room, ready_fault, ready_faults, ready_found, ready, guard_found, part_found, Grow, grown_all, grown_found, grown}
+use Rattle.model_expansion.specs.Layers.{MacroRow, core_row, macro_row, CallNode, GuardItem, FormHolds, Meets, Part, Form, Ready, Rest, Guard, Found, Leaf, Node, Made, Again, Stays, made_of}
+use Rattle.model_expansion.specs.Expansion.{deepest_core, Setting, Progress, progress_after, evaluated_to, Expanded, Makes, Fails, then_make, counting_expansion, macro_values, Look, Stands, Bad, Use, UserUse, Settle, settles, out_of_steps, again, core_look, call_look, arity_of, function_look, defined_look, macro_look, headed_look, list_look, look_at, built, body_value, used, looked, settled, settle, row_found, head_fault, if_room, ready_fault, ready_faults, ready_found, ready, guard_found, part_found, Grow, grown_all, grown_found, grown}
 use Rattle.model_expansion_laws.specs.Counting.{Advanced, IsOutOfSteps, Advances, ExpansionCounts}
 
 module _ (limit : ℕ) where
@@ -89,7 +89,7 @@ module _ (limit : ℕ) where
   looks_use a (Makes (Stays f) p) l h = advanced_use a p l h
   looks_use a (Fails fault p) l h = (advanced_use a p l h.0, h.1)
 
-  looks_counting : (a : Progress) (go : Progress → Expanded Made) → ((p : Progress) → Advances limit p (go p)) → Looks a (counting limit go a)
+  looks_counting : (a : Progress) (go : Progress → Expanded Made) → ((p : Progress) → Advances limit p (go p)) → Looks a (counting_expansion limit go a)
   looks_counting a go h = by_test (nat_lt a.calls limit) refl
     where
       by_test : (b : Bool) → nat_lt a.calls limit ≡ b → Looks a (if b then go (one_use a) else Fails (MacroStopped Steps None) a)
@@ -145,11 +145,11 @@ module _ (x : Setting) where
   other_defined s d (Some (Macro name formals body)) = tt
   other_defined s d (Some found) = other_function s d (arity_of (Some found))
 
-  other_macro : (symbols : List QualifiedName) (s : ℕ) (d : Object ℕ) (row : Option Row) → IsOtherLook (macro_look x symbols s d row)
+  other_macro : (symbols : List QualifiedName) (s : ℕ) (d : Object ℕ) (row : Option MacroRow) → IsOtherLook (macro_look x symbols s d row)
   other_macro symbols s d None = other_defined s d (definition x.world s)
   other_macro symbols s d (Some row) = tt
 
-  other_headed : (symbols : List QualifiedName) (s : ℕ) (d : Object ℕ) (row : Option Row) → IsOtherLook (headed_look x symbols s d row)
+  other_headed : (symbols : List QualifiedName) (s : ℕ) (d : Object ℕ) (row : Option MacroRow) → IsOtherLook (headed_look x symbols s d row)
   other_headed symbols s d None = other_macro symbols s d (macro_row s)
   other_headed symbols s d (Some row) = other_core s (option_and_then (made_of symbols row) (elements d))
 
@@ -188,7 +188,7 @@ module _ (x : Setting) where
     other_ready (MvLet names form body) left = other_room left _ (other_or _ _ (other_ready form (left - 1)) (other_ready body (left - 1)))
     other_ready (StobjLet names forms vars producer consumer) left =
         other_room left _ (other_or _ _ (other_faults forms (left - 1)) (other_or _ _ (other_ready producer (left - 1)) (other_ready consumer (left - 1))))
-    other_ready (WithLocal object names producer body) left = other_room left _ (other_or _ _ (other_ready producer (left - 1)) (other_ready body (left - 1)))
+    other_ready (WithLocal stobj names producer body) left = other_room left _ (other_or _ _ (other_ready producer (left - 1)) (other_ready body (left - 1)))
     other_ready (MustBeEqual logic exec) left = other_room left _ (other_or _ _ (other_ready logic (left - 1)) (other_ready exec (left - 1)))
     other_ready (Call f fs) left = other_room left _ (other_or _ _ (other_head f (count fs) (arity_of (definition x.world f))) (other_faults fs (left - 1)))
 
@@ -208,7 +208,7 @@ module _ (x : Setting) where
   advances_shaped s p None = (advanced_same x.steps p, λ q. absurd q)
   advances_shaped s p (Some m) = advanced_same x.steps p
 
-  advances_built : (s : ℕ) (row : Row) (d : Object ℕ) (p : Progress) → Advances x.steps p (built x s row d p)
+  advances_built : (s : ℕ) (row : MacroRow) (d : Object ℕ) (p : Progress) → Advances x.steps p (built x s row d p)
   advances_built s row d p = advances_shaped s p (option_and_then (made_of p.symbols row) (elements d))
 
   abbrev pub with_values : ℕ → MacroFormals → Core → Progress → Option (List (Object ℕ)) → Expanded Made
@@ -260,7 +260,7 @@ module _ (x : Setting) where
 
   advances_guard : (left : ℕ) (gs : List GuardItem) (p : Progress) → Advances x.steps p (guard_found x left gs p)
   advances_guard left [] p = advanced_same x.steps p
-  advances_guard left (Holds o ∷ []) p = advances_settle o p
+  advances_guard left (FormHolds o ∷ []) p = advances_settle o p
   advances_guard left (Meets f ∷ []) p = advances_ready left f p
   advances_guard left (g ∷ (h ∷ gs)) p = advanced_same x.steps p
 

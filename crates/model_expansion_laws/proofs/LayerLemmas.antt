@@ -8,7 +8,7 @@ use Rattle.model_terms.specs.Cores.{Var}
 use Rattle.model_expansion.specs.Forms.{elements, is, are_different, is_key, variable_name}
 use Rattle.model_expansion.specs.TypeTerms.{depth_of, type_term}
 use Rattle.model_expansion.specs.Words.{hidden_variable_word}
-use Rattle.model_expansion.specs.Layers.{Row, Quote, If, Let, Mv, MvLet, StobjLet, WithLocal, MustBeEqual, And, Or, Cond, Case, LetStar, Listing, ListStar, Chain, Minus, Added, Two, Turned, Negated, Path, Then, Mbt, Mbe, The, Clauses, Bindings, Checked, Kind, IfNode, LetNode, MvNode, MvLetNode, StobjLetNode, WithLocalNode, MustBeEqualNode, CallNode, Part, Form, Ready, Rest, Found, Leaf, Node, Made, Again, Stays, node, if_made, hidden_let, binding, bindings, variables, body_of, bound_names, bound_forms, let_of, let_made, let_star_made, mv_let_parts, mv_let_made, stobj_let_of, stobj_let_made, written_mv_let, with_local_made, are_cond_clauses, is_default, are_case_clauses, cond_layer, key_test, case_layer, mbe_made, checked_made, path_made, chained, made_of}
+use Rattle.model_expansion.specs.Layers.{MacroRow, Quote, If, Let, Mv, MvLet, StobjLet, WithLocal, MustBeEqual, And, Or, Cond, Case, LetStar, Listing, ListStar, Chain, Minus, Added, Two, Turned, Negated, Path, Then, Mbt, Mbe, The, Clauses, Bindings, Checked, Kind, IfNode, LetNode, MvNode, MvLetNode, StobjLetNode, WithLocalNode, MustBeEqualNode, CallNode, Part, Form, Ready, Rest, Found, Leaf, Node, Made, Again, Stays, node, if_made, hidden_let, binding, bindings, variables, body_of, bound_names, bound_forms, let_of, let_made, let_star_made, mv_let_parts, mv_let_made, stobj_let_of, stobj_let_made, written_mv_let, with_local_made, are_cond_clauses, is_default, are_case_clauses, cond_layer, key_test, case_layer, mbe_made, checked_made, path_made, chained, made_of}
 
 abbrev pub HasAny : List Part → Type 0
 HasAny [] = ⊥
@@ -21,7 +21,7 @@ HasParts (LetNode names) qs = HasAny qs
 HasParts MvNode qs = Unit {0}
 HasParts (MvLetNode names) qs = HasAny qs
 HasParts (StobjLetNode names vars) qs = HasAny qs
-HasParts (WithLocalNode object names) qs = HasAny qs
+HasParts (WithLocalNode stobj names) qs = HasAny qs
 HasParts MustBeEqualNode qs = HasAny qs
 HasParts (CallNode f) qs = Unit {0}
 
@@ -112,8 +112,8 @@ module _ (symbols : List QualifiedName) where
   low_with_local : (os : List (Object ℕ)) → IsLowIfAny (with_local_made symbols os)
   low_with_local (x ∷ (f ∷ [])) =
       low_then (variable_name symbols x)
-      (λ object. option_map (λ p. node (WithLocalNode object p.0) (Form p.1 ∷ Form p.2 ∷ [])) (option_and_then (mv_let_parts symbols) (written_mv_let symbols f)))
-      (λ object. low_map (option_and_then (mv_let_parts symbols) (written_mv_let symbols f)) (λ p. node (WithLocalNode object p.0) (Form p.1 ∷ Form p.2 ∷ [])) (λ p. tt))
+      (λ stobj. option_map (λ p. node (WithLocalNode stobj p.0) (Form p.1 ∷ Form p.2 ∷ [])) (option_and_then (mv_let_parts symbols) (written_mv_let symbols f)))
+      (λ stobj. low_map (option_and_then (mv_let_parts symbols) (written_mv_let symbols f)) (λ p. node (WithLocalNode stobj p.0) (Form p.1 ∷ Form p.2 ∷ [])) (λ p. tt))
   low_with_local os = tt
 
   -- ---- macros
@@ -140,14 +140,14 @@ module _ (symbols : List QualifiedName) where
   low_path (l ∷ []) x = tt
   low_path (l ∷ (m ∷ ls)) x = tt
 
-  low_chained : (f : ℕ) (row : Row) (os : List (Object ℕ)) (unit : Object ℕ) → IsLowMade (chained symbols f row os unit)
+  low_chained : (f : ℕ) (row : MacroRow) (os : List (Object ℕ)) (unit : Object ℕ) → IsLowMade (chained symbols f row os unit)
   low_chained f row [] unit = refl
   low_chained f row (x ∷ []) unit = tt
   low_chained f row (x ∷ (y ∷ ys)) unit = tt
 
   -- ---- all rows
 
-  pub low_made : (row : Row) (os : List (Object ℕ)) → IsLowIfAny (made_of symbols row os)
+  pub low_made : (row : MacroRow) (os : List (Object ℕ)) → IsLowIfAny (made_of symbols row os)
   unfolding made_of
   low_made Quote (o ∷ []) = refl
   low_made If (a ∷ (b ∷ (c ∷ []))) = tt

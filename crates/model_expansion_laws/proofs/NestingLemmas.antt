@@ -9,9 +9,9 @@ use Rattle.model_terms.specs.Worlds.{MacroFormals, Definition, Macro, Constant, 
 use Rattle.model_eval.specs.Outcomes.{Steps, Outcome, Gives, Stops, Unknown}
 use Rattle.model_expansion.specs.Forms.{elements, is_self_evaluating}
 use Rattle.model_expansion.specs.Faults.{ExpandFault, Arity, MacroStopped}
-use Rattle.model_expansion.specs.TypeTerms.{depth_of, most_depth}
-use Rattle.model_expansion.specs.Layers.{Row, core_row, macro_row, Kind, IfNode, LetNode, MvNode, MvLetNode, StobjLetNode, WithLocalNode, MustBeEqualNode, CallNode, GuardItem, Holds, Meets, Part, Form, Ready, Rest, Guard, Found, Leaf, Node, Made, Again, Stays, made_of}
-use Rattle.model_expansion.specs.Expansion.{deepest_core, Setting, Progress, Expanded, Makes, Fails, then_make, counting, part_at, joined, macro_values, Look, Stands, Bad, Use, UserUse, Settle, settles, out_of_steps, again, core_look, call_look, arity_of, function_look, defined_look, variable_or, symbol_look, macro_look, headed_look, list_look, look_at, built, body_value, used, looked, settled, settle, row_found, head_fault, if_room, ready_fault, ready_faults, ready_found, guard_found, part_found, Grow, grown_all, grown_found, grown}
+use Rattle.model_expansion.specs.TypeTerms.{depth_of, depth_of_all}
+use Rattle.model_expansion.specs.Layers.{MacroRow, core_row, macro_row, Kind, IfNode, LetNode, MvNode, MvLetNode, StobjLetNode, WithLocalNode, MustBeEqualNode, CallNode, GuardItem, FormHolds, Meets, Part, Form, Ready, Rest, Guard, Found, Leaf, Node, Made, Again, Stays, made_of}
+use Rattle.model_expansion.specs.Expansion.{deepest_core, Setting, Progress, Expanded, Makes, Fails, then_make, counting_expansion, part_at, core_of_node, macro_values, Look, Stands, Bad, Use, UserUse, Settle, settles, out_of_steps, again, core_look, call_look, arity_of, function_look, defined_look, variable_or, symbol_look, macro_look, headed_look, list_look, look_at, built, body_value, used, looked, settled, settle, row_found, head_fault, if_room, ready_fault, ready_faults, ready_found, guard_found, part_found, Grow, grown_all, grown_found, grown}
 use Rattle.model_expansion_laws.specs.Counting.{CoresAreNotTooDeep}
 use Rattle.model_expansion_laws.proofs.CountLemmas.{shaped, with_values}
 use Rattle.model_expansion_laws.proofs.LayerLemmas.{HasParts, IsLow, IsLowMade, IsLowIfAny, low_made}
@@ -42,14 +42,14 @@ module _ (x : Setting) where
     within_ready (MvLet names form body) left e = node_within left _ _ (both_within _ _ _ _ _ (within_ready form (left - 1)) (within_ready body (left - 1))) e
     within_ready (StobjLet names forms vars producer consumer) left e =
         node_within left _ _ (both_within _ _ _ _ _ (all_ready forms (left - 1)) (both_within _ _ _ _ _ (within_ready producer (left - 1)) (within_ready consumer (left - 1)))) e
-    within_ready (WithLocal object names producer body) left e =
+    within_ready (WithLocal stobj names producer body) left e =
         node_within left _ _ (both_within _ _ _ _ _ (within_ready producer (left - 1)) (within_ready body (left - 1))) e
     within_ready (MustBeEqual logic exec) left e = node_within left _ _ (both_within _ _ _ _ _ (within_ready logic (left - 1)) (within_ready exec (left - 1))) e
     within_ready (Call f fs) left e =
-        node_within left (option_or (head_fault x f (count fs) (arity_of (definition x.world f))) (ready_faults x fs (left - 1))) (most_depth fs)
-        (behind_within (head_fault x f (count fs) (arity_of (definition x.world f))) (ready_faults x fs (left - 1)) (most_depth fs) (left - 1) (all_ready fs (left - 1))) e
+        node_within left (option_or (head_fault x f (count fs) (arity_of (definition x.world f))) (ready_faults x fs (left - 1))) (depth_of_all fs)
+        (behind_within (head_fault x f (count fs) (arity_of (definition x.world f))) (ready_faults x fs (left - 1)) (depth_of_all fs) (left - 1) (all_ready fs (left - 1))) e
 
-    all_ready : (fs : Cores) (left : ℕ) → ready_faults x fs left ≡ None → most_depth fs ≤ left
+    all_ready : (fs : Cores) (left : ℕ) → ready_faults x fs left ≡ None → depth_of_all fs ≤ left
     all_ready none left e = omega arith
     all_ready (more f fs) left e = both_within _ _ _ _ _ (within_ready f left) (all_ready fs left) e
 
@@ -79,7 +79,7 @@ low_settles (Makes (Again o) p) go h k = k o p
 low_settles (Makes (Stays f) p) go h k = h
 low_settles (Fails fault p) go h k = tt
 
-low_counting : (steps : ℕ) (go : Progress → Expanded Made) (p : Progress) → ((q : Progress) → IsLowOutcome (go q)) → IsLowOutcome (counting steps go p)
+low_counting : (steps : ℕ) (go : Progress → Expanded Made) (p : Progress) → ((q : Progress) → IsLowOutcome (go q)) → IsLowOutcome (counting_expansion steps go p)
 low_counting steps go p h = by_test (nat_lt p.calls steps)
   where
     by_test : (b : Bool) → IsLowOutcome (if b then go (record p { calls = p.calls + 1; outer = p.outer + 1 }) else Fails (MacroStopped Steps None) p)
@@ -109,15 +109,15 @@ module _ (x : Setting) where
   low_defined s d (Some (Macro name formals body)) = tt
   low_defined s d (Some found) = low_function s d (arity_of (Some found))
 
-  low_macro : (symbols : List QualifiedName) (s : ℕ) (d : Object ℕ) (row : Option Row) → IsLowLook (macro_look x symbols s d row)
+  low_macro : (symbols : List QualifiedName) (s : ℕ) (d : Object ℕ) (row : Option MacroRow) → IsLowLook (macro_look x symbols s d row)
   low_macro symbols s d None = low_defined s d (definition x.world s)
   low_macro symbols s d (Some row) = tt
 
-  low_option : (symbols : List QualifiedName) (row : Row) (os : Option (List (Object ℕ))) → IsLowIfAny (option_and_then (made_of symbols row) os)
+  low_option : (symbols : List QualifiedName) (row : MacroRow) (os : Option (List (Object ℕ))) → IsLowIfAny (option_and_then (made_of symbols row) os)
   low_option symbols row None = tt
   low_option symbols row (Some os) = low_made symbols row os
 
-  low_headed : (symbols : List QualifiedName) (s : ℕ) (d : Object ℕ) (row : Option Row) → IsLowLook (headed_look x symbols s d row)
+  low_headed : (symbols : List QualifiedName) (s : ℕ) (d : Object ℕ) (row : Option MacroRow) → IsLowLook (headed_look x symbols s d row)
   low_headed symbols s d None = low_macro symbols s d (macro_row s)
   low_headed symbols s d (Some row) = low_core s (option_and_then (made_of symbols row) (elements d)) (low_option symbols row (elements d))
 
@@ -149,7 +149,7 @@ module _ (x : Setting) where
   low_shaped s p None h = tt
   low_shaped s p (Some m) h = h
 
-  low_built : (s : ℕ) (row : Row) (d : Object ℕ) (p : Progress) → IsLowOutcome (built x s row d p)
+  low_built : (s : ℕ) (row : MacroRow) (d : Object ℕ) (p : Progress) → IsLowOutcome (built x s row d p)
   low_built s row d p = low_shaped s p (option_and_then (made_of p.symbols row) (elements d)) (low_option p.symbols row (elements d))
 
   low_values : (s : ℕ) (formals : MacroFormals) (body : Core) (p : Progress) (values : Option (List (Object ℕ))) → IsLowOutcome (with_values x s formals body p values)
@@ -198,7 +198,7 @@ module _ (x : Setting) where
 
   found_guard : (left : ℕ) (gs : List GuardItem) (p : Progress) → IsFoundWithin (suc left) (guard_found x (suc left) gs p)
   found_guard left [] p = omega arith
-  found_guard left (Holds o ∷ []) p = found_low left (settle x o p) (low_settled x (x.steps - p.calls) o p)
+  found_guard left (FormHolds o ∷ []) p = found_low left (settle x o p) (low_settled x (x.steps - p.calls) o p)
   found_guard left (Meets f ∷ []) p = found_ready (suc left) f p (ready_fault x f (suc left)) refl
   found_guard left (g ∷ (h ∷ gs)) p = tt
 
@@ -210,28 +210,28 @@ module _ (x : Setting) where
 
 -- ---- nodes
 
-part_within : (left : ℕ) (fs : List Core) (k : ℕ) → 1 ≤ left → most_depth (cores fs) ≤ left → depth_of (part_at fs k) ≤ left
+part_within : (left : ℕ) (fs : List Core) (k : ℕ) → 1 ≤ left → depth_of_all (cores fs) ≤ left → depth_of (part_at fs k) ≤ left
 part_within left [] k room h = room
 part_within left (f ∷ fs) zero room h = omega (arith, h)
 part_within left (f ∷ fs) (suc k) room h = part_within left fs k room (omega (arith, h))
 
-take_within : (left n : ℕ) (fs : List Core) → most_depth (cores fs) ≤ left → most_depth (cores (take n fs)) ≤ left
+take_within : (left n : ℕ) (fs : List Core) → depth_of_all (cores fs) ≤ left → depth_of_all (cores (take n fs)) ≤ left
 take_within left zero fs h = omega arith
 take_within left (suc n) [] h = omega arith
 take_within left (suc n) (f ∷ fs) h = let others = take_within left n fs (omega (arith, h)) in omega (arith, h, others)
 
-last_within : (left : ℕ) (fs : List Core) (f : Core) → most_depth (cores fs) ≤ left → depth_of f ≤ left → most_depth (cores (fs ++ f ∷ [])) ≤ left
+last_within : (left : ℕ) (fs : List Core) (f : Core) → depth_of_all (cores fs) ≤ left → depth_of f ≤ left → depth_of_all (cores (fs ++ f ∷ [])) ≤ left
 last_within left [] f h k = omega (arith, k)
 last_within left (g ∷ fs) f h k = let others = last_within left fs f (omega (arith, h)) k in omega (arith, h, others)
 
-joined_within : (left : ℕ) (k : Kind) (fs : List Core) → 1 ≤ left → most_depth (cores fs) ≤ left → depth_of (joined k fs) ≤ suc left
+joined_within : (left : ℕ) (k : Kind) (fs : List Core) → 1 ≤ left → depth_of_all (cores fs) ≤ left → depth_of (core_of_node k fs) ≤ suc left
 joined_within left IfNode fs room h = omega (arith, part_within left fs 0 room h, part_within left fs 1 room h, part_within left fs 2 room h)
 joined_within left (LetNode names) fs room h = omega (arith, take_within left (length names) fs h, part_within left fs (length names) room h)
 joined_within left MvNode fs room h = omega (arith, h)
 joined_within left (MvLetNode names) fs room h = omega (arith, part_within left fs 0 room h, part_within left fs 1 room h)
 joined_within left (StobjLetNode names vars) fs room h =
     omega (arith, take_within left (length names) fs h, part_within left fs (length names) room h, part_within left fs (length names + 1) room h)
-joined_within left (WithLocalNode object names) fs room h = omega (arith, part_within left fs 0 room h, part_within left fs 1 room h)
+joined_within left (WithLocalNode stobj names) fs room h = omega (arith, part_within left fs 0 room h, part_within left fs 1 room h)
 joined_within left MustBeEqualNode fs room h = omega (arith, part_within left fs 0 room h, part_within left fs 1 room h)
 joined_within left (CallNode f) fs room h = omega (arith, h)
 
@@ -242,7 +242,7 @@ IsWithin left (Makes f p) = depth_of f ≤ left
 IsWithin left (Fails fault p) = Unit {0}
 
 abbrev AreWithin : ℕ → Expanded (List Core) → Type 0
-AreWithin left (Makes fs p) = most_depth (cores fs) ≤ left
+AreWithin left (Makes fs p) = depth_of_all (cores fs) ≤ left
 AreWithin left (Fails fault p) = Unit {0}
 
 within_then : (left : ℕ) (r : Expanded Core) (go : Core → Progress → Expanded (List Core)) → IsWithin left r → ((f : Core) (p : Progress) → depth_of f ≤ left → AreWithin left (go f p)) → AreWithin left (then_make r go)
@@ -250,13 +250,13 @@ within_then left (Makes f p) go h k = k f p h
 within_then left (Fails fault p) go h k = tt
 
 module _ (left : ℕ) (grow : Grow) (h : (q : Part) (p : Progress) → IsWithin left (grow q p)) where
-  all_within : (qs : List Part) (done : List Core) (p : Progress) → most_depth (cores done) ≤ left → AreWithin left (grown_all grow qs done p)
+  all_within : (qs : List Part) (done : List Core) (p : Progress) → depth_of_all (cores done) ≤ left → AreWithin left (grown_all grow qs done p)
   unfolding grown_all
   all_within [] done p k = k
   all_within (q ∷ qs) done p k =
       within_then left (grow q p) (λ f after. grown_all grow qs (done ++ f ∷ []) after) (h q p) (λ f after d. all_within qs (done ++ f ∷ []) after (last_within left done f k d))
 
-  node_joined : (k : Kind) (r : Expanded (List Core)) → 1 ≤ left → AreWithin left r → IsWithin (suc left) (then_make r (λ fs after. Makes (joined k fs) after))
+  node_joined : (k : Kind) (r : Expanded (List Core)) → 1 ≤ left → AreWithin left r → IsWithin (suc left) (then_make r (λ fs after. Makes (core_of_node k fs) after))
   node_joined k (Makes fs p) room d = joined_within left k fs room d
   node_joined k (Fails fault p) room d = tt
 
@@ -270,7 +270,7 @@ module _ (x : Setting) where
   lowest MvNode [] p h = omega arith
   lowest (MvLetNode names) [] p h = absurd h
   lowest (StobjLetNode names vars) [] p h = absurd h
-  lowest (WithLocalNode object names) [] p h = absurd h
+  lowest (WithLocalNode stobj names) [] p h = absurd h
   lowest MustBeEqualNode [] p h = absurd h
   lowest (CallNode f) [] p h = omega arith
 

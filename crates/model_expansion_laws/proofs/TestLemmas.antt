@@ -19,7 +19,7 @@ use Rattle.model_lists.specs.Types.{ValueType, Anything, Nothing, Integers, Reco
 use Rattle.model_terms.specs.Cores.{Core, Const, If}
 use Rattle.model_terms.specs.Worlds.{World}
 use Rattle.model_eval.specs.Outcomes.{Shown, Plain, State, Outcome, Gives, Stops, Unknown, Steps, one_more_call, then_with, counting, stops_here}
-use Rattle.model_eval.specs.Scopes.{Variables, single}
+use Rattle.model_eval.specs.Variables.{Variables, single}
 use Rattle.model_eval.specs.Evaluated.{leaf, is_false, evaluated, called, in_order}
 use Rattle.model_eval.specs.Checked.{checked_rules, checked_primitive}
 use Rattle.model_expansion.specs.Words.{integerp_word, below_word, member_equal_word}
@@ -196,7 +196,7 @@ module _ (w : World) (packages : List Package) (limit : ℕ) (variables : Variab
         and_says true (not (int_lt n low) && not (int_lt high n)) _ _ (integer_says s x (Integer n) e)
         (λ h. and_says (not (int_lt n low)) (not (int_lt high n)) _ _ (low_says low) (λ k. high_says high))
 
-  -- an object that is no integer is in no range
+  -- a stobj that is no integer is in no range
   outside_says : HasTestFunctions w → (x : Core) (o : Object ℕ) (low high : Option ℤ) → leaf (checked_rules w packages limit) x variables ≡ Some (Plain o) → is_integer o ≡ false → AlwaysSays false (range_test low high x)
   outside_says s x o low high e n = by_ends low high
     where

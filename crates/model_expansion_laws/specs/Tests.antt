@@ -15,7 +15,7 @@ use Rattle.model_lists.specs.Types.{ValueType, Anything, Nothing, Integers, Reco
 use Rattle.model_terms.specs.Cores.{Core}
 use Rattle.model_terms.specs.Worlds.{World, Primitive, definition}
 use Rattle.model_eval.specs.Outcomes.{Plain, Stop, Guard, Steps, Depth, Range, Large, Symbols, State, Outcome, Gives, Stops, Unknown}
-use Rattle.model_eval.specs.Scopes.{Variables}
+use Rattle.model_eval.specs.Variables.{Variables}
 use Rattle.model_eval.specs.Evaluated.{leaf}
 use Rattle.model_eval.specs.Checked.{checked, checked_rules}
 use Rattle.model_expansion.specs.Words.{symbolp_word, stringp_word, integerp_word, booleanp_word, below_word, member_equal_word}

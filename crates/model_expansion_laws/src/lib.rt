@@ -5,7 +5,7 @@ ghost use Rattle.model_expansion_laws.specs.Counting.{CoresAreNotTooDeep, Expans
 ghost use Rattle.model_expansion_laws.specs.Depth.{DepthComesFirst};
 ghost use Rattle.model_expansion_laws.specs.Tests.{TermsSay, TestsSay, TypesAreWritten};
 
-/// The test of a type gives a value other than `NIL` exactly where the object meets the type, and stops at a limit alone.
+/// The test of a type gives a value other than `NIL` exactly where the stobj meets the type, and stops at a limit alone.
 #[tactic(auto, using(crate::proofs::TestLemmas::tests_say))]
 pub fn tests_say_what_types_mean()
     ensures { TestsSay }
@@ -35,7 +35,7 @@ pub fn read_types_can_be_tested()
     ensures { TypesAreWritten }
 {}
 
-/// The test of a type as it is written gives a value other than `NIL` exactly where the object meets the type, and stops at a limit alone.
+/// The test of a type as it is written gives a value other than `NIL` exactly where the stobj meets the type, and stops at a limit alone.
 #[tactic(auto, using(crate::proofs::WrittenLemmas::terms_say))]
 pub fn terms_of_types_say_what_types_mean()
     ensures { TermsSay }

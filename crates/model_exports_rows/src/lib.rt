@@ -1,4 +1,4 @@
-//! Books that stop inside an export, each computed from the definitions: the object is as it was at the export's call. Written by
+//! Books that stop inside an export, each computed from the definitions: the stobj is as it was at the export's call. Written by
 //! tools/rows.py from the files in rows/.
 #![tactic(auto)]
 

@@ -1,4 +1,4 @@
--- The logic follows checked evaluation where objects may be abstract: from any lists that belong together.
+-- The logic follows checked evaluation where stobjs may be abstract: from any lists that belong together.
 use Rattle.std.proofs.Common.{ℕ, None, refl, ap, ◌∙◌}
 use Rattle.model_eval.specs.Outcomes.{Stobjs, StateOf}
 use Rattle.model_eval.specs.PlacesKeeping.{Store}

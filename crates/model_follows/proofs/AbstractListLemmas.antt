@@ -1,4 +1,4 @@
--- The logic follows checked evaluation where objects may be abstract, in the words of lists that correspond.
+-- The logic follows checked evaluation where stobjs may be abstract, in the words of lists that correspond.
 use Rattle.std.proofs.Common.{◌≡◌, ℕ, List, [], ◌∷◌, map, length, Bool, true, false, Option, Some, None, refl, sym, ap, ◌∙◌, subst}
 use Rattle.std.specs.Prelude.{◌||◌, nat_eq, if◌then◌else◌}
 use Rattle.std.proofs.lemmas.Bool.{eqb-true}
@@ -9,21 +9,21 @@ use Rattle.model_symbols.proofs.NameLemmas.{symbol_at-is}
 use Rattle.model_prims.specs.Kinds.{by_number, by_name}
 use Rattle.model_lists.specs.Lists.{StobjList, Value, as_object}
 use Rattle.model_lists.specs.Layouts.{Layout, recognizes}
-use Rattle.model_lists.specs.Standing.{HasFields}
+use Rattle.model_lists.specs.LiveLists.{HasFields}
 use Rattle.model_terms.specs.Worlds.{World, Definition, Descriptor, AbstractDescriptor, definition, Primitive, Defined, Macro, Constant, Concrete, Generated, Abstract, OfAbstract, Named, Signed, Out, Scope}
 use Rattle.model_terms.specs.Worlds as worlds
 use Rattle.model_terms.specs.Classes.{has, repeats}
-use Rattle.model_eval.specs.Outcomes.{Shown, Plain, Stobj, Stobjs}
-use Rattle.model_eval.specs.Scopes.{variable_in, list_of}
+use Rattle.model_eval.specs.Outcomes.{Shown, Plain, StobjNamed, Stobjs}
+use Rattle.model_eval.specs.Variables.{variable_in, list_of}
 use Rattle.model_eval.specs.Checked.{checked}
 use Rattle.model_logic.specs.Logic.{Theory, Thing, EndsWith}
 use Rattle.model_abstract.specs.Corresponding.{named_list, CallHolds, CorrespondAs, Correspond}
 use Rattle.model_eval_laws.specs.Scope.{names, is_among}
 use Rattle.model_eval_laws.proofs.Lists.{same_number}
 use Rattle.model_accepted.specs.Threaded.{layout_of}
-use Rattle.model_accepted.specs.Scopes.{IsStobj, AreOutputs}
+use Rattle.model_accepted.specs.StobjScopes.{IsStobj, AreOutputs}
 use Rattle.model_accepted.proofs.AcceptLemmas.{neither, true_false, false_true}
-use Rattle.model_follows.specs.Worlds.{KnowsList}
+use Rattle.model_follows.specs.FollowedWorlds.{KnowsList}
 use Rattle.model_follows.specs.Follows.{thing_of_list, one_thing, table_of}
 use Rattle.model_follows.specs.Corresponding.{Lists, as_thing, theory_with, Follow}
 use Rattle.model_follows.specs.SymbolLaw.{IsWritten}
@@ -50,7 +50,7 @@ corresponding_at b (o ∷ os) (l ∷ ls) x c h = go (nat_eq x o.0) refl h (corre
     go false e i later =
         subst (λ (m : StobjList QualifiedName). CorrespondAs b x (definition b.world x) (list_of os x) m) (sym (ap (λ (q : Bool). if q then l.1 else list_of ls x) (ap (nat_eq x) (sym c.0) ∙ e))) (later i)
 
--- the list of an object of L as a list
+-- the list of a stobj of L as a list
 abbrev list_by : Option AbstractDescriptor → StobjList QualifiedName → Thing → StobjList QualifiedName
 list_by None l t = l
 list_by (Some d) l t = Value t
@@ -87,7 +87,7 @@ correspond_each b view last (o ∷ os) r f =
         go true g = true_false (sym i ∙ (ap (λ (z : ℕ). is_among z (names os)) (eqb-true y o.0 g) ∙ e))
         go false g = refl
 
--- ---- one object
+-- ---- one stobj
 
 module _ (w : World) (base : Table) (symbols now : List QualifiedName) (written : IsWritten w (length base.symbols)) (laid : AreLaidOut w) (bg : Extends base (table_of base.packages symbols)) (grown : Extends base (table_of base.packages now))
     (at_nil : symbol_at now nil ≡ nil_name) where
@@ -106,7 +106,7 @@ module _ (w : World) (base : Table) (symbols now : List QualifiedName) (written 
   holds_here : (name : ℕ) (c a : Thing) → CallHolds (theory_with w base symbols) name (c ∷ a ∷ []) → CallHolds (theory_with w base now) name (c ∷ a ∷ [])
   holds_here name c a h = (h.0, call_stays w base symbols now bg grown written name (c ∷ a ∷ []) h.0 h.1, h.2)
 
-  -- an object that stands in lists that correspond
+  -- a stobj that stands in lists that correspond
   from_lists : (x : ℕ) (d : Option Definition) → definition w x ≡ d → (c : StobjList ℕ) (a : StobjList QualifiedName) → CorrespondAs (theory_with w base now) x d c a → IsSoundList x c × IsKin x d c (as_object by_name a)
   from_lists x None e c a h = absurd h
   from_lists x (Some (Primitive name row)) e c a h = absurd h
@@ -169,12 +169,12 @@ things_are scope symbols last lists l [] [] a = refl
 things_are scope symbols last lists l [] (v ∷ vs) a = absurd a
 things_are scope symbols last lists l (q ∷ ks) [] a = absurd a
 things_are scope symbols last lists l (q ∷ ks) (Plain o ∷ vs) a = ap (λ (ts : List Thing). form_of symbols o ∷ ts) (things_are scope symbols last lists l ks vs a.1)
-things_are scope symbols last lists l (worlds.Ordinary ∷ ks) (Stobj y ∷ vs) a = absurd a.0
-things_are scope symbols last lists l (worlds.Stobj x ∷ ks) (Stobj y ∷ vs) a = rw (l y (subst (IsStobj scope) (sym a.0.0) a.0.1), things_are scope symbols last lists l ks vs a.1) refl
+things_are scope symbols last lists l (worlds.Ordinary ∷ ks) (StobjNamed y ∷ vs) a = absurd a.0
+things_are scope symbols last lists l (worlds.Stobj x ∷ ks) (StobjNamed y ∷ vs) a = rw (l y (subst (IsStobj scope) (sym a.0.0) a.0.1), things_are scope symbols last lists l ks vs a.1) refl
 
 shown_held : (symbols : List QualifiedName) (lists : Lists) (v : Shown ℕ) → as_thing symbols lists v ≡ held symbols (λ x. as_object by_name (list_of lists x)) v
 shown_held symbols lists (Plain o) = refl
-shown_held symbols lists (Stobj x) = refl
+shown_held symbols lists (StobjNamed x) = refl
 
 pub follows_abstract_on_lists : LogicFollowsAbstractOnLists
 follows_abstract_on_lists = record {

@@ -1,4 +1,4 @@
--- Calls: guards and bodies, primitives, and functions of objects.
+-- Calls: guards and bodies, primitives, and functions of stobjs.
 use Rattle.std.proofs.Common.{◌≡◌, ℕ, List, [], ◌∷◌, map, length, true, false, None, sym, ap, ◌∙◌, subst, inl, inr}
 use Rattle.std.specs.Prelude.{◌⊎◌}
 use Rattle.model_symbols.specs.Symbols.{QualifiedName}
@@ -13,11 +13,11 @@ use Rattle.model_eval.specs.Outcomes.{Shown, Stobjs, StateOf, State, Outcome, Gi
 use Rattle.model_eval.specs.Keeping.{handed, outer_value}
 use Rattle.model_eval.specs.PlacesKeeping.{Store}
 use Rattle.model_eval.specs.ListsKeeping.{lists_keeping}
-use Rattle.model_eval.specs.Scopes.{inner_variables, list_of}
+use Rattle.model_eval.specs.Variables.{inner_variables, list_of}
 use Rattle.model_eval.specs.Evaluated.{Evaluator, EvaluatorOf, scoped}
 use Rattle.model_logic.specs.Logic.{Theory, Thing, bind}
 use Rattle.model_accepted.specs.Threaded.{layout_of, AreFormals, formal_entries, IsChecked, IsThreaded}
-use Rattle.model_accepted.specs.Scopes.{IsStobj, AreOutputs}
+use Rattle.model_accepted.specs.StobjScopes.{IsStobj, AreOutputs}
 use Rattle.model_in_place.specs.Standing.{Stands, AreSame}
 use Rattle.model_in_place.specs.Writes.{Write, stobjs_after, AreWrites, Moves}
 use Rattle.model_in_place.specs.Calls.{Pairs, pairs_of, names_in, firsts, seconds, actual, lists_for, places_for, lists_back, writes_out, AreArguments}
@@ -26,13 +26,13 @@ use Rattle.model_in_place.proofs.CallLemmas.{inner_objects_are, handed_back_is, 
 use Rattle.model_in_place.proofs.FormalLemmas.{firsts_distinct, seconds_are, formal_first, formal_variables, stands_inside, known_inside}
 use Rattle.model_in_place.proofs.CallMeeting.{May, results, on_lists, at_places, Meets, executable_not_logic, meets_scoped}
 use Rattle.model_follows.specs.Costs.{Counted, form_counted, Ends}
-use Rattle.model_follows.specs.Worlds.{KnowsList, IsSuited}
+use Rattle.model_follows.specs.FollowedWorlds.{KnowsList, IsSuited}
 use Rattle.model_follows.proofs.HeldThings.{Ground, Held, all_held, Kin, AreKin, kin_same, kin_alike}
 use Rattle.model_follows.specs.Follows.{thing_of_list, one_thing, KnowsAll, table_of, IsSound, IfGives}
 use Rattle.model_follows.proofs.ThingLemmas.{knows_list_stays, same_held, outputs_in, list_stays}
 use Rattle.model_follows.proofs.Following.{gives_map, gives_both, gives_moves, nil_known, MineAs, AreSeenIn, Lawful, Follows, DidAs, Did, did}
 use Rattle.model_follows.proofs.PartFollowing.{book}
-use Rattle.model_follows.proofs.FormalThings.{AreSeen, held_for, held_back, back_at, back_other, actual_second, actual_or_not, formal_seen, formal_object, kin_inside, list_inside, actual_object, written_or_not, sound_inside, named_inside, things_outside, known_outside}
+use Rattle.model_follows.proofs.FormalThings.{AreSeen, held_for, held_back, back_at, back_other, actual_second, actual_or_not, formal_seen, formal_stobj, kin_inside, list_inside, actual_object, written_or_not, sound_inside, named_inside, things_outside, known_outside}
 
 module _ (w : World) (base : Ground) (threaded : IsThreaded w) (followed : Lawful w base threaded) (limit : ℕ) (symbols : List QualifiedName)
     (ev : Evaluator ℕ) (el : EvaluatorOf ℕ (Store ℕ)) (h : Meets w threaded base.table.packages limit ev el) (f : Follows w base (book w base threaded limit symbols) ev) (scope : Scope) (seen_as : ℕ → ℕ) where
@@ -106,7 +106,7 @@ module _ (w : World) (base : Ground) (threaded : IsThreaded w) (followed : Lawfu
 
         kin_by : (y : ℕ) → IsStobj scope y → ((x : ℕ) × (has (firsts pairs) x ≡ true) × (y ≡ actual pairs x)) ⊎ (has (seconds pairs) y ≡ false) → Kin w base u.symbols (seen_as y) (list_of outside y) (outer_lists y)
         kin_by y i (inl e) =
-            let here : IsStobj (formal_entries formals ins) e.0 = formal_object w scope formals ins vs e.0 fs distinct a e.1 in
+            let here : IsStobj (formal_entries formals ins) e.0 = formal_stobj w scope formals ins vs e.0 fs distinct a e.1 in
             subst (λ (z : ℕ). Kin w base u.symbols (seen_as z) (list_of outside z) (outer_lists z)) (sym e.2)
             (kin_same w base u.symbols u.symbols (seen_as (actual pairs e.0)) (list_of u.stobjs e.0) (list_of outside (actual pairs e.0)) (d.mine.last e.0) (outer_lists (actual pairs e.0))
             (ap (thing_of_list u.symbols) (list_is e.0 here)) (list_back e.0 here)

@@ -1,4 +1,4 @@
--- Calls of functions: guards before bodies, primitives, and functions of objects.
+-- Calls of functions: guards before bodies, primitives, and functions of stobjs.
 use Rattle.std.proofs.Common.{◌≡◌, ℕ, List, [], length, Bool, true, false, Option, Some, refl, sym, ap, ◌∙◌, subst}
 use Rattle.std.specs.Prelude.{replicate, if◌then◌else◌}
 use Rattle.model_symbols.specs.Symbols.{QualifiedName}
@@ -11,12 +11,12 @@ use Rattle.model_terms.specs.Cores.{Core}
 use Rattle.model_terms.specs.Worlds.{World, Definition, Function, FunctionOfAbstract, Out, Ordinary, Signature, Scope, definition, Primitive, Defined, Macro, Constant, Concrete, Generated, Abstract, OfAbstract, Named, Signed}
 use Rattle.model_terms.specs.Classes.{repeats}
 use Rattle.model_terms.specs.Outputs.{signature_in}
-use Rattle.model_terms.specs.Children.{is_internal, is_executable}
+use Rattle.model_terms.specs.Accessors.{is_internal, is_executable}
 use Rattle.model_terms.specs.Sites.{one_ordinary}
 use Rattle.model_eval.specs.Outcomes.{Shown, Guard, Stobjs, StateOf, State, Outcome, one_more_call, stops_here}
 use Rattle.model_eval.specs.PlacesKeeping.{Store}
-use Rattle.model_eval.specs.Scopes.{ordinary, list_of}
-use Rattle.model_eval.specs.Evaluated.{Evaluator, EvaluatorOf, scoped, guarded, by_definition, exec_called, of_abstract, called, is_false}
+use Rattle.model_eval.specs.Variables.{ordinary, list_of}
+use Rattle.model_eval.specs.Evaluated.{Evaluator, EvaluatorOf, scoped, with_guard, by_definition, exec_called, of_abstract, called, is_false}
 use Rattle.model_eval.specs.Checked.{primitive_ended}
 use Rattle.model_logic.specs.Logic.{Theory, Thing, bind, found, defined_value, logic_of_abstract, creator_of}
 use Rattle.model_accepted.specs.Threaded.{layout_of, Runs, AreFormals, IsChecked, IsAdmitted, IsThreaded}
@@ -26,7 +26,7 @@ use Rattle.model_in_place.proofs.WriteLemmas.{stands_moved, counted_same}
 use Rattle.model_accepted.proofs.ScopeLemmas.{some_same}
 use Rattle.model_in_place.proofs.CallMeeting.{May, on_lists, Meets}
 use Rattle.model_follows.specs.Costs.{Counted, caller, form_counted, Ends}
-use Rattle.model_follows.specs.Worlds.{HasAbstractCreator, IsSuited}
+use Rattle.model_follows.specs.FollowedWorlds.{HasAbstractCreator, IsSuited}
 use Rattle.model_lists.specs.Layouts.{initial}
 use Rattle.model_follows.proofs.HeldThings.{Ground, Held, all_held, Kin, AreKin, itself, kin_same}
 use Rattle.model_follows.specs.Follows.{thing_of_list, KnowsAll, table_of, IsSound, IfGives}
@@ -53,7 +53,7 @@ module _ (w : World) (base : Ground) (threaded : IsThreaded w) (followed : Lawfu
   defined_counted d args = λ budget nest start. defined_value thy budget (caller thy budget nest) (logic_of_abstract thy budget (caller thy budget nest)) d args start
 
   module _ (sig_ins : List Out) (vs : List (Shown ℕ)) (a : AreArguments w scope sig_ins vs) (seen : AreSeen base seen_as sig_ins vs) (r : repeats (names_in vs) ≡ false) where
-    -- objects and what is known of them and of the arguments, where a call is made
+    -- stobjs and what is known of them and of the arguments, where a call is made
     pub record Calling (s : State ℕ) (t : StateOf (Store ℕ)) : Type 0 where
       pub stands : Stands w scope s.stobjs t.stobjs
       pub same : AreSame s t
@@ -84,7 +84,7 @@ module _ (w : World) (base : Ground) (threaded : IsThreaded w) (followed : Lawfu
         → (s : State ℕ) (t : StateOf (Store ℕ)) → (before : Calling s t)
         → ((given : List (Shown ℕ)) (u : State ℕ) (v : StateOf (Store ℕ)) → (after : Calling u v) → IsQuiet w base threaded limit symbols scope s u before.lists after.lists
         → is_false (on_lists w threaded base.table.packages limit) given ≡ false → DidAs w base seen_as scope one_ordinary s t (form_counted thy guard (bind formals (all_held s.symbols before.lists vs) [])) given u → CallMine u logic (go u))
-        → CallMine s logic (guarded (on_lists w threaded base.table.packages limit) ev name formals guard vs go s)
+        → CallMine s logic (with_guard (on_lists w threaded base.table.packages limit) ev name formals guard vs go s)
     unfolding calling_after
     follows_guarded name formals guard logic go fs d checked seen_in suited s t c k =
         gives_then (DidAs w base seen_as scope one_ordinary s t (form_counted thy guard (bind formals (all_held s.symbols c.lists vs) []))) (MineAs w base seen_as scope s logic)
@@ -107,7 +107,7 @@ module _ (w : World) (base : Ground) (threaded : IsThreaded w) (followed : Lawfu
         → IsSuited w (length base.table.symbols) fun.guard → IsSuited w (length base.table.symbols) fun.body
         → (s : State ℕ) (t : StateOf (Store ℕ)) → (before : Calling s t)
         → CallMine s (form_counted thy fun.body (bind fun.formals (all_held s.symbols before.lists vs) []))
-        (guarded (on_lists w threaded base.table.packages limit) ev fun.name fun.formals fun.guard vs (scoped (on_lists w threaded base.table.packages limit) ev fun.formals vs fun.body) s)
+        (with_guard (on_lists w threaded base.table.packages limit) ev fun.name fun.formals fun.guard vs (scoped (on_lists w threaded base.table.packages limit) ev fun.formals vs fun.body) s)
     follows_defined fun admitted guard_seen body_seen same_ins suited_guard suited_body s t c =
         let guard_here : (x : IsChecked w fun.formals sig_ins fun.guard one_ordinary) × AreSeenIn w base x.world = checked_here fun.formals fun.signature.ins fun.guard one_ordinary same_ins admitted.guard guard_seen in
         let body_here : (x : IsChecked w fun.formals sig_ins fun.body fun.signature.outs) × AreSeenIn w base x.world = checked_here fun.formals fun.signature.ins fun.body fun.signature.outs same_ins admitted.body body_seen in
@@ -195,7 +195,7 @@ module _ (w : World) (base : Ground) (threaded : IsThreaded w) (followed : Lawfu
         abstract_ins : (d : Definition) (g : FunctionOfAbstract) → d ≡ OfAbstract g → signature_in d ≡ Some sig → g.signature.ins ≡ sig_ins
         abstract_ins d g q signed = ap (λ (z : Signature). z.ins) (some_same (subst (λ (x : Definition). signature_in x ≡ Some sig) q signed)) ∙ e
 
--- ---- functions of abstract objects
+-- ---- functions of abstract stobjs
 
 -- calls of them follow, whatever evaluates forms
 pub record AbstractsFollow (w : World) (base : Ground) (threaded : IsThreaded w) (followed : Lawful w base threaded) (limit : ℕ) (symbols : List QualifiedName) (bg : Extends base.table (table_of base.table.packages symbols)) : Type 0 where
@@ -205,5 +205,5 @@ pub record AbstractsFollow (w : World) (base : Ground) (threaded : IsThreaded w)
       → CallMine w base threaded followed limit symbols ev el h f scope bg itself s (defined_counted w base threaded followed limit symbols ev el h f scope bg itself (Some (OfAbstract g)) (all_held s.symbols before.lists vs))
       (of_abstract (on_lists w threaded base.table.packages limit) ev (exec_called (on_lists w threaded base.table.packages limit) ev vs) g g.role vs s)
   -- a new one is made in L, and its list belongs to C's
-  pub makes : (object : ℕ) → HasAbstractCreator w object → (scope : Scope) (now : List QualifiedName) (stobjs : Stobjs ℕ) → IsSound w base.table scope now stobjs
-      → (made : Thing) × Ends (λ budget nest start. caller (book w base threaded limit symbols) budget nest (creator_of (definition w object)) [] start) made × Kin w base now object (initial (layout_of w object)) made
+  pub makes : (stobj : ℕ) → HasAbstractCreator w stobj → (scope : Scope) (now : List QualifiedName) (stobjs : Stobjs ℕ) → IsSound w base.table scope now stobjs
+      → (made : Thing) × Ends (λ budget nest start. caller (book w base threaded limit symbols) budget nest (creator_of (definition w stobj)) [] start) made × Kin w base now stobj (initial (layout_of w stobj)) made

@@ -5,7 +5,7 @@ use Rattle.std.proofs.lemmas.Bool.Decides.{nat_tests}
 use Rattle.model_prims.specs.Kinds.{by_name, is_nil}
 use Rattle.model_terms.specs.Cores.{Core, Cores, Var, Const, If, Let, Mv, MvLet, StobjLet, WithLocal, MustBeEqual, Call, none, more}
 use Rattle.model_terms.specs.Worlds.{Definition, FunctionOfAbstract, definition, Primitive, Defined, Macro, Constant, Concrete, Generated, Abstract, OfAbstract, Named, Signed}
-use Rattle.model_logic.specs.Logic.{Theory, Thing, Values, Found, then_found, found, bind, bind_others, elements, parts_for, Caller, spending, creator_of, logic_loans, with_children, put_loans, with_parent, form_value, form_values, defined_value, logic_of_abstract, call_within, EndsWith, CallEndsWith}
+use Rattle.model_logic.specs.Logic.{Theory, Thing, Values, Found, then_found, found, bind, bind_others, element_values, parts_for, Caller, spending, creator_of, logic_loans, with_children, put_loans, with_parent, form_value, form_values, defined_value, logic_of_abstract, call_within, EndsWith, CallEndsWith}
 use Rattle.model_follows.specs.Costs.{Counted, Costs, caller, Ends}
 use Rattle.model_follows.specs.CostLaw.{CallsEnd}
 
@@ -77,7 +77,7 @@ module _ (b : Theory) (k l j : ℕ) where
           earlier_forms forms values [] _ _ (λ os z. earlier_form body (bind names os values) z) n
       earlier_form (Mv parts) values n = earlier_forms parts values [] _ _ (λ os z. earlier_now m z _) n
       earlier_form (MvLet names form body) values n =
-          earlier_then m n _ _ _ _ (earlier_form form values n) (λ v z. earlier_form body (bind names (elements names 0 v) values) z)
+          earlier_then m n _ _ _ _ (earlier_form form values n) (λ v z. earlier_form body (bind names (element_values names 0 v) values) z)
       earlier_form (StobjLet names forms vars producer consumer) values n =
           let loans = logic_loans b names forms values in
           let put = put_loans vars loans in
@@ -86,10 +86,10 @@ module _ (b : Theory) (k l j : ℕ) where
           earlier_then m z _ _ (λ v y. spending k (length put) y (last v)) _ (earlier_form producer (with_children loans values) z) (λ v y.
           earlier_pay (length put) y (last v) _ (λ x.
           earlier_form consumer (bind vars (parts_for vars v) [] ++ with_parent put (bind vars (parts_for vars v) []) values) x)))
-      earlier_form (WithLocal object names producer body) values n =
-          earlier_then m n _ _ _ _ (c (creator_of (definition b.world object)) [] n) (λ list z.
-          earlier_then m z _ _ _ _ (earlier_form producer ((object, list) ∷ values) z) (λ v y.
-          earlier_form body (bind_others object names (elements names 0 v) values) y))
+      earlier_form (WithLocal stobj names producer body) values n =
+          earlier_then m n _ _ _ _ (c (creator_of (definition b.world stobj)) [] n) (λ list z.
+          earlier_then m z _ _ _ _ (earlier_form producer ((stobj, list) ∷ values) z) (λ v y.
+          earlier_form body (bind_others stobj names (element_values names 0 v) values) y))
       earlier_form (MustBeEqual first exec) values n = earlier_form first values n
       earlier_form (Call f actuals) values n = earlier_forms actuals values [] _ _ (c f) n
 
@@ -170,7 +170,7 @@ form_anywhere b k nest start form values v n e = (
         has_it : Earlier b k n start n 0 (found v n) (form_value b n (call_within b n n) form values 0) → form_value b n (call_within b n n) form values 0 ≡ found v (n - start)
         has_it m = m.1 (omega arith) (omega arith)
 
--- ---- a function that is of no abstract object, called as one that belongs to such an object
+-- ---- a function that is of no abstract stobj, called as one that belongs to such a stobj
 
 same_exported : (b : Theory) (k : ℕ) (call : Caller) (go end : ℕ → List Thing → ℕ → Option Found) (d : Option Definition) (args : List Thing) (n : ℕ) → ((f : FunctionOfAbstract) → d ≡ Some (OfAbstract f) → ⊥)
     → defined_value b k call go d args n ≡ defined_value b k call end d args n

@@ -1,4 +1,4 @@
--- A function of an object on its list, and in the logic.
+-- A function of a stobj on its list, and in the logic.
 use Rattle.std.proofs.Common.{◌≡◌, ℕ, zero, suc, ◌<◌, List, [], ◌∷◌, ◌++◌, map, length, Bool, true, false, Option, Some, None, refl, sym, ap, ◌∙◌, subst, inl, inr}
 use Rattle.std.specs.Prelude.{◌≢◌, ◌⊎◌, nat_eq, unwrap_or, if◌then◌else◌}
 use Rattle.std.proofs.lemmas.Bool.{eqb-true}
@@ -12,29 +12,29 @@ use Rattle.model_prims.proofs.FollowLemmas.{is_naming}
 use Rattle.model_lists.specs.Types.{ValueType, Anything, Nothing, Integers, Recognized, OneOf, Either, Both, Other}
 use Rattle.model_lists.specs.Lists.{StobjList, Value, End, as_object}
 use Rattle.model_lists.specs.Layouts.{Layout, Scalar, Array, Hash, Children, NoField, Field, repeated, initial, field_layout, recognizes}
-use Rattle.model_lists.specs.Standing.{HasFields}
-use Rattle.model_lists.specs.Generated.{Effect, Refuses, Reads, Writes}
+use Rattle.model_lists.specs.LiveLists.{HasFields}
+use Rattle.model_lists.specs.Effects.{Effect, Refuses, Reads, Writes}
 use Rattle.model_lists_laws.proofs.LogicalLemmas.{is_recognized}
-use Rattle.model_lists_laws.proofs.StandingLemmas.{new_objects_stand}
+use Rattle.model_lists_laws.proofs.StandingLemmas.{new_stobjs_stand}
 use Rattle.model_terms.specs.declared.role.Role.{Role}
 use Rattle.model_terms.specs.declared.role.Role.TheVariants as role
 use Rattle.model_terms.specs.Worlds.{World, GeneratedFunction, Out, Ordinary, Scope}
 use Rattle.model_terms.specs.Worlds as worlds
-use Rattle.model_eval.specs.Outcomes.{Shown, Plain, Stobj, StateOf, State}
+use Rattle.model_eval.specs.Outcomes.{Shown, Plain, StobjNamed, StateOf, State}
 use Rattle.model_eval.specs.PlacesKeeping.{Store}
 use Rattle.model_eval.specs.ListsKeeping.{lists_keeping}
-use Rattle.model_eval.specs.Scopes.{plain, ordinary, first_stobj, list_of, with_list}
-use Rattle.model_eval.specs.Worlds.{stobj_layout}
-use Rattle.model_eval.specs.Generated.{effect, effected, list_or_none, generated}
+use Rattle.model_eval.specs.Variables.{plain, ordinary, first_stobj, list_of, with_list}
+use Rattle.model_eval.specs.StobjLayouts.{stobj_layout}
+use Rattle.model_eval.specs.GeneratedCalls.{effect, effected, list_or_none, generated}
 use Rattle.model_logic.specs.Logic.{Thing, found}
 use Rattle.model_logic.specs.LogicFunctions.{logic_effect, logic_generated}
 use Rattle.model_accepted.specs.Threaded.{layout_of, IsMade, IsThreaded}
-use Rattle.model_accepted.specs.Scopes.{IsStobj}
+use Rattle.model_accepted.specs.StobjScopes.{IsStobj}
 use Rattle.model_in_place.specs.Standing.{Stands}
 use Rattle.model_in_place.specs.Calls.{AreArguments}
 use Rattle.model_in_place.proofs.ObjectLemmas.{equal_or_not, list_written, list_other}
 use Rattle.model_follows.specs.Costs.{Ends}
-use Rattle.model_follows.specs.Worlds.{TypeSymbols, LayoutSymbols, ListSymbols, KnowsList, SuitsLogic, before_object, ordinary_before, object_argument, IsMadeFor}
+use Rattle.model_follows.specs.FollowedWorlds.{TypeSymbols, LayoutSymbols, ListSymbols, KnowsList, SuitsLogic, before_stobj, ordinary_before, stobj_argument, IsMadeFor}
 use Rattle.model_eval_laws.proofs.Lists.{same_number}
 use Rattle.model_accepted.proofs.AcceptLemmas.{true_false}
 use Rattle.model_follows.proofs.HeldThings.{Ground, Held, all_held, Kin, AreKin, kin_plain, plain_kin, kin_same}
@@ -98,27 +98,27 @@ initial_known P (Children n child) k = repeated_known P n (initial child) (initi
 initial_known P NoField k = tt
 initial_known P (Field first others) k = (initial_known P first k.0, initial_known P others k.1)
 
--- ---- arguments: ordinary ones, and then the object
+-- ---- arguments: ordinary ones, and then the stobj
 
 pub record IsCall (w : World) (g : Ground) (seen_as : ℕ → ℕ) (scope : Scope) (x : ℕ) (symbols : List QualifiedName) (lists : Held) (m : ℕ) (vs : List (Shown ℕ)) : Type 0 where
   pub os : List (Object ℕ)
-  pub object : ℕ
+  pub stobj : ℕ
   pub count : length os ≡ m
   pub ordinary_is : ordinary vs ≡ os
-  pub first : first_stobj vs ≡ Some object
-  pub in_scope : IsStobj scope object
-  pub alike : layout_of w x ≡ layout_of w object
-  pub seen : g.view x ≡ g.view (seen_as object)
-  pub things : all_held symbols lists vs ≡ map (form_of symbols) os ++ (lists object ∷ [])
+  pub first : first_stobj vs ≡ Some stobj
+  pub in_scope : IsStobj scope stobj
+  pub alike : layout_of w x ≡ layout_of w stobj
+  pub seen : g.view x ≡ g.view (seen_as stobj)
+  pub things : all_held symbols lists vs ≡ map (form_of symbols) os ++ (lists stobj ∷ [])
   pub each : (n : ℕ) → KnowsAll n vs → EachSymbols (λ s. s < n) os
 
 is_call : (w : World) (g : Ground) (seen_as : ℕ → ℕ) (scope : Scope) (x : ℕ) (symbols : List QualifiedName) (lists : Held) (m : ℕ) (vs : List (Shown ℕ)) → AreArguments w scope (ordinary_before m (worlds.Stobj x ∷ [])) vs → AreSeen g seen_as (ordinary_before m (worlds.Stobj x ∷ [])) vs → IsCall w g seen_as scope x symbols lists m vs
 is_call w g seen_as scope x symbols lists zero [] a s = absurd a
 is_call w g seen_as scope x symbols lists zero (Plain o ∷ vs) a s = absurd a.0
-is_call w g seen_as scope x symbols lists zero (Stobj y ∷ (v ∷ vs)) a s = absurd a.1
-is_call w g seen_as scope x symbols lists zero (Stobj y ∷ []) a s = record {
+is_call w g seen_as scope x symbols lists zero (StobjNamed y ∷ (v ∷ vs)) a s = absurd a.1
+is_call w g seen_as scope x symbols lists zero (StobjNamed y ∷ []) a s = record {
   os = [];
-  object = y;
+  stobj = y;
   count = refl;
   ordinary_is = refl;
   first = refl;
@@ -129,12 +129,12 @@ is_call w g seen_as scope x symbols lists zero (Stobj y ∷ []) a s = record {
   each = λ n k. tt;
 }
 is_call w g seen_as scope x symbols lists (suc m) [] a s = absurd a
-is_call w g seen_as scope x symbols lists (suc m) (Stobj y ∷ vs) a s = absurd a.0
+is_call w g seen_as scope x symbols lists (suc m) (StobjNamed y ∷ vs) a s = absurd a.0
 is_call w g seen_as scope x symbols lists (suc m) (Plain o ∷ vs) a s =
     let c : IsCall w g seen_as scope x symbols lists m vs = is_call w g seen_as scope x symbols lists m vs a.1 s in
     record {
       os = o ∷ c.os;
-      object = c.object;
+      stobj = c.stobj;
       count = ap (λ (n : ℕ). suc n) c.count;
       ordinary_is = ap (λ (ps : List (Object ℕ)). o ∷ ps) c.ordinary_is;
       first = c.first;
@@ -157,7 +157,7 @@ is_alone : (w : World) (scope : Scope) (symbols : List QualifiedName) (lists : H
 is_alone w scope symbols lists zero [] a = record { os = []; count = refl; ordinary_is = refl; first = refl; things = refl; each = λ n k. tt }
 is_alone w scope symbols lists zero (v ∷ vs) a = absurd a
 is_alone w scope symbols lists (suc m) [] a = absurd a
-is_alone w scope symbols lists (suc m) (Stobj y ∷ vs) a = absurd a.0
+is_alone w scope symbols lists (suc m) (StobjNamed y ∷ vs) a = absurd a.0
 is_alone w scope symbols lists (suc m) (Plain o ∷ vs) a =
     let c : IsCallAlone symbols lists m vs = is_alone w scope symbols lists m vs a.1 in
     record {
@@ -198,7 +198,7 @@ module _ (w : World) (base : Ground) (threaded : IsThreaded w) (followed : Lawfu
 
   mine_written : (s : State ℕ) (t : StateOf (Store ℕ)) (lists : Held) (y : ℕ) (m : StobjList ℕ) (result : Thing) → AreKin w base seen_as scope s.symbols s.stobjs lists → base.view (seen_as y) ≡ None → Stands w scope s.stobjs t.stobjs → IsStobj scope y → IsSound w base.table scope s.symbols s.stobjs → KnowsList (length s.symbols) m
       → recognizes by_number (layout_of w y) (as_object by_number m) ≡ true → form_of s.symbols (as_object by_number m) ≡ result
-      → MineAs w base seen_as scope s (λ budget nest start. found result start) (Stobj y ∷ []) (record s { stobjs = with_list y m s.stobjs })
+      → MineAs w base seen_as scope s (λ budget nest start. found result start) (StobjNamed y ∷ []) (record s { stobjs = with_list y m s.stobjs })
   mine_written s t lists y m result kin plain_one stands i sound k r e = record {
     last = λ x. if nat_eq x y then thing_of_list s.symbols m else lists x;
     kin = record { each = λ x o. kin_by x o (nat_eq x y) refl };
@@ -236,10 +236,10 @@ module _ (w : World) (base : Ground) (threaded : IsThreaded w) (followed : Lawfu
           (ap (λ (l : StobjList ℕ). recognizes by_number (layout_of w y) (as_object by_number l)) written ∙ r)
       recognized_by x o (inr g) = ap (λ (l : StobjList ℕ). recognizes by_number (layout_of w x) (as_object by_number l)) (list_other x y m s.stobjs g) ∙ sound.recognized x o
 
-  module _ (g : GeneratedFunction) (vs : List (Shown ℕ)) (for : IsMadeFor w g) (a : AreArguments w scope g.signature.ins vs) (seen : AreSeen base seen_as g.signature.ins vs) (plain_one : base.view g.object ≡ None) (s : State ℕ) (t : StateOf (Store ℕ)) (lists : Held) (kin : AreKin w base seen_as scope s.symbols s.stobjs lists)
+  module _ (g : GeneratedFunction) (vs : List (Shown ℕ)) (for : IsMadeFor w g) (a : AreArguments w scope g.signature.ins vs) (seen : AreSeen base seen_as g.signature.ins vs) (plain_one : base.view g.stobj ≡ None) (s : State ℕ) (t : StateOf (Store ℕ)) (lists : Held) (kin : AreKin w base seen_as scope s.symbols s.stobjs lists)
       (stands : Stands w scope s.stobjs t.stobjs) (sound : IsSound w base.table scope s.symbols s.stobjs) (known : KnowsAll (length s.symbols) vs) where
     abbrev whole : Layout ℕ
-    whole = layout_of w g.object
+    whole = layout_of w g.stobj
 
     abbrev fn : ℕ
     fn = unwrap_or g.field 0
@@ -248,7 +248,7 @@ module _ (w : World) (base : Ground) (threaded : IsThreaded w) (followed : Lawfu
     P q = q < length s.symbols
 
     abbrev outcome : Role → Type 0
-    outcome r = IfGives (MineAs w base seen_as scope s (λ budget nest start. found (logic_effect by_name r (stobj_layout (λ (o : Object ℕ). form_of symbols o) w g.object) fn (all_held s.symbols lists vs)) start))
+    outcome r = IfGives (MineAs w base seen_as scope s (λ budget nest start. found (logic_effect by_name r (stobj_layout (λ (o : Object ℕ). form_of symbols o) w g.stobj) fn (all_held s.symbols lists vs)) start))
         (effected lists_keeping g.name vs (first_stobj vs) s (effect by_number r (field_layout fn whole) fn (ordinary vs) (list_or_none lists_keeping s.stobjs (first_stobj vs))))
 
     -- what the effect gives is what the logic does
@@ -261,59 +261,59 @@ module _ (w : World) (base : Ground) (threaded : IsThreaded w) (followed : Lawfu
     naming = is_naming (table_of base.table.packages s.symbols) sound.table sound.truth
 
     layouts_known : LayoutSymbols P whole
-    layouts_known = layout_weaker base.table (table_of base.table.packages s.symbols) sound.grown whole (followed.layouts g.object)
+    layouts_known = layout_weaker base.table (table_of base.table.packages s.symbols) sound.grown whole (followed.layouts g.stobj)
 
     assemble : (r : Role) (os : List (Object ℕ)) (x : Option ℕ) (ts : List Thing) (lay : Layout QualifiedName) → ordinary vs ≡ os → first_stobj vs ≡ x → all_held s.symbols lists vs ≡ ts
-        → stobj_layout (λ (o : Object ℕ). form_of symbols o) w g.object ≡ lay
+        → stobj_layout (λ (o : Object ℕ). form_of symbols o) w g.stobj ≡ lay
         → IfGives (MineAs w base seen_as scope s (λ budget nest start. found (logic_effect by_name r lay fn ts) start)) (effected lists_keeping g.name vs x s (effect by_number r (field_layout fn whole) fn os (list_or_none lists_keeping s.stobjs x)))
         → outcome r
     assemble r os x ts lay p q u v m = rw (p, q, u, v) m
 
-    ins_are : (r : Role) → g.role ≡ r → g.signature.ins ≡ ordinary_before (before_object r (field_layout fn whole)) (object_argument r g.object)
-    ins_are r e = for.ins ∙ ap (λ (q : Role). ordinary_before (before_object q (field_layout fn whole)) (object_argument q g.object)) e
+    ins_are : (r : Role) → g.role ≡ r → g.signature.ins ≡ ordinary_before (before_stobj r (field_layout fn whole)) (stobj_argument r g.stobj)
+    ins_are r e = for.ins ∙ ap (λ (q : Role). ordinary_before (before_stobj q (field_layout fn whole)) (stobj_argument q g.stobj)) e
 
-    with_object : (r : Role) → object_argument r g.object ≡ worlds.Stobj g.object ∷ [] → ((ts : List Thing) (o : Thing) → role_args r ts o ≡ ts ++ (o ∷ [])) → g.role ≡ r → outcome r
+    with_object : (r : Role) → stobj_argument r g.stobj ≡ worlds.Stobj g.stobj ∷ [] → ((ts : List Thing) (o : Thing) → role_args r ts o ≡ ts ++ (o ∷ [])) → g.role ≡ r → outcome r
     with_object r oa ra e =
-        let m : ℕ = before_object r (field_layout fn whole) in
-        let c : IsCall w base seen_as scope g.object s.symbols lists m vs
-        = is_call w base seen_as scope g.object s.symbols lists m vs (subst (λ (ins : List Out). AreArguments w scope ins vs) (ins_are r e ∙ ap (ordinary_before m) oa) a)
+        let m : ℕ = before_stobj r (field_layout fn whole) in
+        let c : IsCall w base seen_as scope g.stobj s.symbols lists m vs
+        = is_call w base seen_as scope g.stobj s.symbols lists m vs (subst (λ (ins : List Out). AreArguments w scope ins vs) (ins_are r e ∙ ap (ordinary_before m) oa) a)
         (subst (λ (ins : List Out). AreSeen base seen_as ins vs) (ins_are r e ∙ ap (ordinary_before m) oa) seen) in
-        let plain_there : base.view (seen_as c.object) ≡ None = sym c.seen ∙ plain_one in
-        let l : StobjList ℕ = list_of s.stobjs c.object in
+        let plain_there : base.view (seen_as c.stobj) ≡ None = sym c.seen ∙ plain_one in
+        let l : StobjList ℕ = list_of s.stobjs c.stobj in
         let result : Thing = logic_effect by_name r (named_layout (symbol_at s.symbols) whole) fn (role_args r (map (form_of s.symbols) c.os) (form_of s.symbols (as_object by_number l))) in
-        assemble r c.os (Some c.object) (role_args r (map (form_of s.symbols) c.os) (form_of s.symbols (as_object by_number l))) (named_layout (symbol_at s.symbols) whole)
-        c.ordinary_is c.first (c.things ∙ (ap (λ (z : Thing). map (form_of s.symbols) c.os ++ (z ∷ [])) (plain_kin w base s.symbols (seen_as c.object) l (lists c.object) plain_there (kin.each c.object c.in_scope)) ∙ sym (ra (map (form_of s.symbols) c.os) (form_of s.symbols (as_object by_number l))))) (book_layout s.symbols sound.grown g.object)
-        (by_effect c.object l c.in_scope c.alike plain_there result (effect by_number r (field_layout fn whole) fn c.os l)
-        (fits_there c.object c.in_scope c.alike) (recognized_there c.object c.in_scope c.alike)
-        (goes_role (symbol_at s.symbols) P naming whole fn l (fits_there c.object c.in_scope c.alike) (recognized_there c.object c.in_scope c.alike) (sound.known c.object c.in_scope) layouts_known (followed.initials g.object)
+        assemble r c.os (Some c.stobj) (role_args r (map (form_of s.symbols) c.os) (form_of s.symbols (as_object by_number l))) (named_layout (symbol_at s.symbols) whole)
+        c.ordinary_is c.first (c.things ∙ (ap (λ (z : Thing). map (form_of s.symbols) c.os ++ (z ∷ [])) (plain_kin w base s.symbols (seen_as c.stobj) l (lists c.stobj) plain_there (kin.each c.stobj c.in_scope)) ∙ sym (ra (map (form_of s.symbols) c.os) (form_of s.symbols (as_object by_number l))))) (book_layout s.symbols sound.grown g.stobj)
+        (by_effect c.stobj l c.in_scope c.alike plain_there result (effect by_number r (field_layout fn whole) fn c.os l)
+        (fits_there c.stobj c.in_scope c.alike) (recognized_there c.stobj c.in_scope c.alike)
+        (goes_role (symbol_at s.symbols) P naming whole fn l (fits_there c.stobj c.in_scope c.alike) (recognized_there c.stobj c.in_scope c.alike) (sound.known c.stobj c.in_scope) layouts_known (followed.initials g.stobj)
         r (field_layout fn whole) refl (subst (λ (q : Role). SuitsLogic q (field_layout fn whole)) e for.suits) c.os c.count (c.each (length s.symbols) known)))
       where
-        fits_there : (y : ℕ) → IsStobj scope y → layout_of w g.object ≡ layout_of w y → HasFields whole (list_of s.stobjs y)
+        fits_there : (y : ℕ) → IsStobj scope y → layout_of w g.stobj ≡ layout_of w y → HasFields whole (list_of s.stobjs y)
         fits_there y i alike = subst (λ (m : Layout ℕ). HasFields m (list_of s.stobjs y)) (sym alike) (stands.fits y i)
 
-        recognized_there : (y : ℕ) → IsStobj scope y → layout_of w g.object ≡ layout_of w y → recognizes by_number whole (as_object by_number (list_of s.stobjs y)) ≡ true
+        recognized_there : (y : ℕ) → IsStobj scope y → layout_of w g.stobj ≡ layout_of w y → recognizes by_number whole (as_object by_number (list_of s.stobjs y)) ≡ true
         recognized_there y i alike = ap (λ (m : Layout ℕ). recognizes by_number m (as_object by_number (list_of s.stobjs y))) alike ∙ sound.recognized y i
 
-        by_effect : (y : ℕ) (l : StobjList ℕ) → IsStobj scope y → layout_of w g.object ≡ layout_of w y → base.view (seen_as y) ≡ None → (result : Thing) (q : Effect ℕ) (fits : HasFields whole l) (rec : recognizes by_number whole (as_object by_number l) ≡ true)
+        by_effect : (y : ℕ) (l : StobjList ℕ) → IsStobj scope y → layout_of w g.stobj ≡ layout_of w y → base.view (seen_as y) ≡ None → (result : Thing) (q : Effect ℕ) (fits : HasFields whole l) (rec : recognizes by_number whole (as_object by_number l) ≡ true)
             → GoesThere result q → IfGives (MineAs w base seen_as scope s (λ budget nest start. found result start)) (effected lists_keeping g.name vs (Some y) s q)
         by_effect y l i alike p result Refuses fits rec h = tt
         by_effect y l i alike p result (Reads os) fits rec h = mine_read s lists os result kin sound h.0 h.1
         by_effect y l i alike p result (Writes m) fits rec h =
             mine_written s t lists y m result kin p stands i sound h.0 (ap (λ (q : Layout ℕ). recognizes by_number q (as_object by_number m)) (sym alike) ∙ h.1) h.2
 
-    alone : (r : Role) → object_argument r g.object ≡ [] → ((ts : List Thing) (o : Thing) → role_args r ts o ≡ ts)
+    alone : (r : Role) → stobj_argument r g.stobj ≡ [] → ((ts : List Thing) (o : Thing) → role_args r ts o ≡ ts)
         → ((os : List (Object ℕ)) (l m : StobjList ℕ) → effect by_number r (field_layout fn whole) fn os l ≡ effect by_number r (field_layout fn whole) fn os m) → g.role ≡ r → outcome r
     alone r oa ra same e =
-        let m : ℕ = before_object r (field_layout fn whole) in
+        let m : ℕ = before_stobj r (field_layout fn whole) in
         let c : IsCallAlone s.symbols lists m vs
         = is_alone w scope s.symbols lists m vs (subst (λ (ins : List Out). AreArguments w scope ins vs) (ins_are r e ∙ ap (ordinary_before m) oa) a) in
         let l : StobjList ℕ = initial whole in
         let result : Thing = logic_effect by_name r (named_layout (symbol_at s.symbols) whole) fn (role_args r (map (form_of s.symbols) c.os) (form_of s.symbols (as_object by_number l))) in
         assemble r c.os None (role_args r (map (form_of s.symbols) c.os) (form_of s.symbols (as_object by_number l))) (named_layout (symbol_at s.symbols) whole)
-        c.ordinary_is c.first (c.things ∙ sym (ra (map (form_of s.symbols) c.os) (form_of s.symbols (as_object by_number l)))) (book_layout s.symbols sound.grown g.object)
+        c.ordinary_is c.first (c.things ∙ sym (ra (map (form_of s.symbols) c.os) (form_of s.symbols (as_object by_number l)))) (book_layout s.symbols sound.grown g.stobj)
         (subst (λ (q : Effect ℕ). IfGives (MineAs w base seen_as scope s (λ budget nest start. found result start)) (effected lists_keeping g.name vs None s q)) (same c.os l End)
         (by_effect result (effect by_number r (field_layout fn whole) fn c.os l)
-        (goes_role (symbol_at s.symbols) P naming whole fn l (new_objects_stand.fields whole) (is_recognized.numbered whole (followed.initials g.object)) (initial_known P whole layouts_known) layouts_known (followed.initials g.object)
+        (goes_role (symbol_at s.symbols) P naming whole fn l (new_stobjs_stand.fields whole) (is_recognized.numbered whole (followed.initials g.stobj)) (initial_known P whole layouts_known) layouts_known (followed.initials g.stobj)
         r (field_layout fn whole) refl (subst (λ (q : Role). SuitsLogic q (field_layout fn whole)) e for.suits) c.os c.count (c.each (length s.symbols) known))))
       where
         by_effect : (result : Thing) (q : Effect ℕ) → GoesThere result q → IfGives (MineAs w base seen_as scope s (λ budget nest start. found result start)) (effected lists_keeping g.name vs None s q)
@@ -321,10 +321,10 @@ module _ (w : World) (base : Ground) (threaded : IsThreaded w) (followed : Lawfu
         by_effect result (Reads os) h = mine_read s lists os result kin sound h.0 h.1
         by_effect result (Writes m) h = tt
 
-  pub follows_generated : (g : GeneratedFunction) (vs : List (Shown ℕ)) → IsMade w g → IsMadeFor w g → AreArguments w scope g.signature.ins vs → AreSeen base seen_as g.signature.ins vs → base.view g.object ≡ None → (s : State ℕ) (t : StateOf (Store ℕ)) (lists : Held) → AreKin w base seen_as scope s.symbols s.stobjs lists → Stands w scope s.stobjs t.stobjs
+  pub follows_generated : (g : GeneratedFunction) (vs : List (Shown ℕ)) → IsMade w g → IsMadeFor w g → AreArguments w scope g.signature.ins vs → AreSeen base seen_as g.signature.ins vs → base.view g.stobj ≡ None → (s : State ℕ) (t : StateOf (Store ℕ)) (lists : Held) → AreKin w base seen_as scope s.symbols s.stobjs lists → Stands w scope s.stobjs t.stobjs
       → IsSound w base.table scope s.symbols s.stobjs → KnowsAll (length s.symbols) vs
-      → IfGives (MineAs w base seen_as scope s (λ budget nest start. found (logic_generated by_name g (stobj_layout (λ (o : Object ℕ). form_of symbols o) w g.object) (all_held s.symbols lists vs)) start))
-      (generated lists_keeping by_number g (layout_of w g.object) vs s)
+      → IfGives (MineAs w base seen_as scope s (λ budget nest start. found (logic_generated by_name g (stobj_layout (λ (o : Object ℕ). form_of symbols o) w g.stobj) (all_held s.symbols lists vs)) start))
+      (generated lists_keeping by_number g (layout_of w g.stobj) vs s)
   unfolding effect
   follows_generated g vs made for a seen p s t lists kin stands sound known = go g.role refl
     where

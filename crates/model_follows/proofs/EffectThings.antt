@@ -1,4 +1,4 @@
--- What a function of an object does to its list, and what it is in the logic, symbols by name.
+-- What a function of a stobj does to its list, and what it is in the logic, symbols by name.
 use Rattle.std.proofs.Common.{◌≡◌, ℕ, zero, suc, ◌+◌, ◌<◌, List, [], ◌∷◌, Bool, true, false, Some, refl, ap, ◌∙◌, arith, sub-one}
 use Rattle.std.specs.Prelude.{◌&&◌, nat_eq, pos, negsuc, unwrap_or, if◌then◌else◌}
 use Rattle.std.proofs.lemmas.Bool.Decides.{nat_tests}
@@ -13,14 +13,14 @@ use Rattle.model_prims.proofs.ByName.{IsNaming}
 use Rattle.model_prims.proofs.NamingLemmas.{pair_named, same_named, none_named}
 use Rattle.model_lists.specs.Lists.{scalar_of, StobjList, Value, Pairs, End, Item, size, item, with_item, resized, value_at, without_key, as_object}
 use Rattle.model_lists.specs.Layouts.{Layout, Scalar, Array, Hash, Children, NoField, Field, field_layout, every, recognizes}
-use Rattle.model_lists.specs.Standing.{AllItems, IsValue, HasFields}
+use Rattle.model_lists.specs.LiveLists.{AllItems, IsValue, HasFields}
 use Rattle.model_lists.specs.Logical.{with_length, has_this_key, pair_with, without_pairs, keys_in}
-use Rattle.model_lists.specs.Generated.{is_index}
+use Rattle.model_lists.specs.Effects.{is_index}
 use Rattle.model_lists_laws.specs.Laws.{AreItems}
 use Rattle.model_lists_laws.proofs.StandingLemmas.{IsField}
 use Rattle.model_logic.specs.Logic.{Thing}
 use Rattle.model_accepted.proofs.AcceptLemmas.{both_true, false_true}
-use Rattle.model_follows.specs.Worlds.{PairSymbols, ListSymbols}
+use Rattle.model_follows.specs.FollowedWorlds.{PairSymbols, ListSymbols}
 
 -- ---- lists of fields
 

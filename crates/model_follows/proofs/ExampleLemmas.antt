@@ -6,12 +6,12 @@ use Rattle.model_prims.specs.Kinds.{by_number}
 use Rattle.model_lists.specs.Layouts.{Layout}
 use Rattle.model_lists_laws.specs.Laws.{HasInitials}
 use Rattle.model_terms.specs.Worlds.{World, Definition, definition, Primitive, Defined, Macro, Constant, Concrete, Generated, Abstract, OfAbstract, Named, Signed}
-use Rattle.model_terms.specs.Children.{is_internal}
-use Rattle.model_eval.specs.Worlds.{defined_layout, layout_within, most_nested}
+use Rattle.model_terms.specs.Accessors.{is_internal}
+use Rattle.model_eval.specs.StobjLayouts.{defined_layout, layout_within, most_nested}
 use Rattle.model_in_place.specs.Example.{world}
 use Rattle.model_accepted.proofs.AcceptLemmas.{true_false}
 use Rattle.model_in_place.proofs.ExampleLemmas.{found_one}
-use Rattle.model_follows.specs.Worlds.{LayoutSymbols, IsMadeFor, IsSuited, AreSuited}
+use Rattle.model_follows.specs.FollowedWorlds.{LayoutSymbols, IsMadeFor, IsSuited, AreSuited}
 use Rattle.model_follows.specs.Example.{IsExampleFollowed}
 
 abbrev IsReady : World → ℕ → Definition → Type 0

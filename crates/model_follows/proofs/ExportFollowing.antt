@@ -1,4 +1,4 @@
--- Functions of abstract objects in the logic, beside checked evaluation.
+-- Functions of abstract stobjs in the logic, beside checked evaluation.
 use Rattle.std.proofs.Common.{◌≡◌, ℕ, ◌<◌, List, [], ◌∷◌, map, length, Bool, true, false, Option, Some, None, refl, sym, ap, ◌∙◌, subst, inl, inr}
 use Rattle.std.specs.Prelude.{◌⊎◌, nat_eq, if◌then◌else◌}
 use Rattle.std.proofs.lemmas.Bool.{eqb-true}
@@ -21,18 +21,18 @@ use Rattle.model_terms.specs.Classes as classes
 use Rattle.model_terms.specs.Classes.{has, repeats}
 use Rattle.std.specs.List.{zip}
 use Rattle.model_terms.specs.Sites.{one_ordinary}
-use Rattle.model_eval.specs.Outcomes.{Shown, Plain, Stobj, Stobjs, StateOf, State, OutcomeOf, Outcome, Gives, Stops, Unknown, one_more_call, cut_at}
+use Rattle.model_eval.specs.Outcomes.{Shown, Plain, StobjNamed, Stobjs, StateOf, State, OutcomeOf, Outcome, Gives, Stops, Unknown, one_more_call, cut_at}
 use Rattle.model_eval.specs.PlacesKeeping.{Store}
 use Rattle.model_eval.specs.ListsKeeping.{lists_keeping}
-use Rattle.model_eval.specs.Scopes.{list_of, ordinary, plain, first_stobj}
-use Rattle.model_eval.specs.Evaluated.{Evaluator, EvaluatorOf, guarded, refused, by_definition, exec_called, of_abstract, is_false}
+use Rattle.model_eval.specs.Variables.{list_of, ordinary, plain, first_stobj}
+use Rattle.model_eval.specs.Evaluated.{Evaluator, EvaluatorOf, with_guard, refused, by_definition, exec_called, of_abstract, is_false}
 use Rattle.model_eval.specs.Checked.{checked_export, inside_after}
 use Rattle.model_logic.specs.Logic.{Theory, Thing, bind, creator_of, EndsWith, CallEndsWith}
 use Rattle.model_eval_laws.proofs.Lists.{same_number}
 use Rattle.model_abstract.specs.Rules.{out_parts}
 use Rattle.model_abstract.specs.Corresponding.{CallHolds}
 use Rattle.model_accepted.specs.Threaded.{layout_of, IsConcrete, abstracted, IsExport, IsThreaded}
-use Rattle.model_accepted.specs.Scopes.{IsStobj, AreOutputs}
+use Rattle.model_accepted.specs.StobjScopes.{IsStobj, AreOutputs}
 use Rattle.model_in_place.specs.Standing.{Stands, AreSame}
 use Rattle.model_in_place.specs.Writes.{Moves}
 use Rattle.model_in_place.specs.Calls.{names_in, AreArguments}
@@ -104,24 +104,24 @@ module _ (w : World) (table : Table) (symbols : List QualifiedName) (threaded : 
     abbrev Gets : State ℕ → Counted → Outcome ℕ → Type 0
     Gets s logic p = CallMine w (abstract_ground w table symbols) threaded followed.lawful limit symbols ev el h f scope bg itself s logic p
 
-    -- what the logic function gives, the function of the object gives
+    -- what the logic function gives, the function of the stobj gives
     logic_ends : (args : List Thing) (v : Thing) → CallEndsWith thy g.logic args v → Ends (logic_counted args) v
     logic_ends args v e = logic_function_ends thy g.logic args v of.logic (call_costs thy g.logic args v e)
 
     -- ---- recognizers
 
-    only_actual : (object : ℕ) (vs : List (Shown ℕ)) → AreArguments w scope (worlds.Stobj object ∷ []) vs → AreSeen base itself (worlds.Stobj object ∷ []) vs → (y : ℕ) × (vs ≡ Stobj y ∷ []) × IsStobj scope y × (base.view object ≡ base.view y)
-    only_actual object [] a s = absurd a
-    only_actual object (Plain o ∷ vs) a s = absurd a.0
-    only_actual object (Stobj y ∷ (v ∷ vs)) a s = absurd a.1
-    only_actual object (Stobj y ∷ []) a s = (y, refl, a.0.0, s.0)
+    only_actual : (stobj : ℕ) (vs : List (Shown ℕ)) → AreArguments w scope (worlds.Stobj stobj ∷ []) vs → AreSeen base itself (worlds.Stobj stobj ∷ []) vs → (y : ℕ) × (vs ≡ StobjNamed y ∷ []) × IsStobj scope y × (base.view stobj ≡ base.view y)
+    only_actual stobj [] a s = absurd a
+    only_actual stobj (Plain o ∷ vs) a s = absurd a.0
+    only_actual stobj (StobjNamed y ∷ (v ∷ vs)) a s = absurd a.1
+    only_actual stobj (StobjNamed y ∷ []) a s = (y, refl, a.0.0, s.0)
 
     follows_recognizer : g.role ≡ abstract_role.Recognizer → (s : State ℕ) (t : StateOf (Store ℕ)) (before : Here s t) → Gets s (logic_counted (all_held s.symbols before.lists vs)) (Gives (plain (truth_of by_number true ∷ [])) s)
     follows_recognizer e s t before =
-        let is : (g.logic ≡ d.recognizer.logic) × (g.signature.ins ≡ worlds.Stobj g.object ∷ []) = of.recognizer e in
-        let one : (y : ℕ) × (vs ≡ Stobj y ∷ []) × IsStobj scope y × (base.view g.object ≡ base.view y)
-        = only_actual g.object vs (subst (λ (ins : List Out). AreArguments w scope ins vs) is.1 a) (subst (λ (ins : List Out). AreSeen base itself ins vs) is.1 seen) in
-        let view : IsViewed thy d (thing_of_list s.symbols (list_of s.stobjs one.0)) (before.lists one.0) = viewed g.object one.0 d s.symbols (list_of s.stobjs one.0) (before.lists one.0) of.object one.3 (before.kin.each one.0 one.2) in
+        let is : (g.logic ≡ d.recognizer.logic) × (g.signature.ins ≡ worlds.Stobj g.stobj ∷ []) = of.recognizer e in
+        let one : (y : ℕ) × (vs ≡ StobjNamed y ∷ []) × IsStobj scope y × (base.view g.stobj ≡ base.view y)
+        = only_actual g.stobj vs (subst (λ (ins : List Out). AreArguments w scope ins vs) is.1 a) (subst (λ (ins : List Out). AreSeen base itself ins vs) is.1 seen) in
+        let view : IsViewed thy d (thing_of_list s.symbols (list_of s.stobjs one.0)) (before.lists one.0) = viewed g.stobj one.0 d s.symbols (list_of s.stobjs one.0) (before.lists one.0) of.stobj one.3 (before.kin.each one.0 one.2) in
         record {
           last = before.lists;
           kin = before.kin;
@@ -144,7 +144,7 @@ module _ (w : World) (table : Table) (symbols : List QualifiedName) (threaded : 
       beside = followed.exports name g there is
 
       b : AreArguments w scope x.signature.ins vs
-      b = exec_arguments w scope g.object x.foundation x.signature.ins vs x.alike (only_objects x.foundation x.signature.ins x.only) (subst (λ (ins : List Out). AreArguments w scope ins vs) x.ins a)
+      b = exec_arguments w scope g.stobj x.foundation x.signature.ins vs x.alike (only_objects x.foundation x.signature.ins x.only) (subst (λ (ins : List Out). AreArguments w scope ins vs) x.ins a)
 
       one : (y : ℕ) × (names_in vs ≡ y ∷ []) × IsStobj scope y
       one =
@@ -154,8 +154,8 @@ module _ (w : World) (table : Table) (symbols : List QualifiedName) (threaded : 
       abbrev y : ℕ
       y = one.0
 
-      seen_y : base.view g.object ≡ base.view y
-      seen_y = export_seen base scope w g.object x.signature.ins vs y (subst (λ (ins : List Out). AreArguments w scope ins vs) x.ins a) (subst (λ (ins : List Out). AreSeen base itself ins vs) x.ins seen) one.1
+      seen_y : base.view g.stobj ≡ base.view y
+      seen_y = export_seen base scope w g.stobj x.signature.ins vs y (subst (λ (ins : List Out). AreArguments w scope ins vs) x.ins a) (subst (λ (ins : List Out). AreSeen base itself ins vs) x.ins seen) one.1
 
       args_are : (now : List QualifiedName) (lists : Held) → all_held now lists vs ≡ arguments_with g.signature.ins (map (form_of now) (ordinary vs)) (lists y)
       args_are now lists = arguments_are w scope g.signature.ins vs y now lists a one.1
@@ -244,18 +244,18 @@ module _ (w : World) (table : Table) (symbols : List QualifiedName) (threaded : 
       -- what the logic function gives belongs to that
       export_done : (u : State ℕ) (v v1 : StateOf (Store ℕ)) (before : Here u v) (test : Thing) → EndsWith thy g.guard (bind g.formals (all_held u.symbols before.lists vs) []) test → is_nil by_name test ≡ false
           → (outer : ℕ) (given : List (Shown ℕ)) (z : State ℕ) → DidExec (one_more_call u) v1 given z → MineAs w base itself scope u (logic_counted (all_held u.symbols before.lists vs)) given (record z { outer = outer })
-      export_done u v v1 before test guard_ends not_nil outer given z m = by_part (returned thy d g.object y z.symbols m.mine.last x.foundation outs given parts x.only_outs beside.once shape corresponding)
+      export_done u v v1 before test guard_ends not_nil outer given z m = by_part (returned thy d g.stobj y z.symbols m.mine.last x.foundation outs given parts x.only_outs beside.once shape corresponding)
         where
           os : List Thing
           os = map (form_of u.symbols) (ordinary vs)
 
           here : IsViewed thy d (thing_of_list u.symbols (list_of u.stobjs y)) (before.lists y)
-          here = viewed g.object y d u.symbols (list_of u.stobjs y) (before.lists y) of.object seen_y (before.kin.each y one.2)
+          here = viewed g.stobj y d u.symbols (list_of u.stobjs y) (before.lists y) of.stobj seen_y (before.kin.each y one.2)
 
           holds : (e : Thing) × (l : Thing) × CallEndsWith thy g.exec (arguments_with g.signature.ins os (thing_of_list u.symbols (list_of u.stobjs y))) e × CallEndsWith thy g.logic (arguments_with g.signature.ins os (before.lists y)) l
               × OutputsCorrespond thy d g.signature.outs (out_parts thy 0 g.signature.outs e) (out_parts thy 0 g.signature.outs l) × (l ≡ one_thing (out_parts thy 0 g.signature.outs l))
           holds =
-              (obligations.exports name d g there is of.object).holds os (thing_of_list u.symbols (list_of u.stobjs y)) (before.lists y) test here.corresponding here.well_formed
+              (obligations.exports name d g there is of.stobj).holds os (thing_of_list u.symbols (list_of u.stobjs y)) (before.lists y) test here.corresponding here.well_formed
               (subst (λ (args : List Thing). EndsWith thy g.guard (bind g.formals args []) test) (args_are u.symbols before.lists) guard_ends) not_nil
 
           parts : List Thing
@@ -273,9 +273,9 @@ module _ (w : World) (table : Table) (symbols : List QualifiedName) (threaded : 
           exec_parts : out_parts thy 0 g.signature.outs holds.0 ≡ all_held z.symbols m.mine.last given
           exec_parts =
               ap (out_parts thy 0 g.signature.outs) exec_value
-              ∙ outs_are thy g.signature.outs (all_held z.symbols m.mine.last given) (ap (λ (ks : List Out). length ks) x.outs ∙ shape_length y g.object outs given z.symbols m.mine.last shape)
+              ∙ outs_are thy g.signature.outs (all_held z.symbols m.mine.last given) (ap (λ (ks : List Out). length ks) x.outs ∙ shape_length y g.stobj outs given z.symbols m.mine.last shape)
 
-          corresponding : OutputsCorrespond thy d (map (abstracted g.object) outs) (all_held z.symbols m.mine.last given) parts
+          corresponding : OutputsCorrespond thy d (map (abstracted g.stobj) outs) (all_held z.symbols m.mine.last given) parts
           corresponding =
               subst (λ (ks : List Out). OutputsCorrespond thy d ks (all_held z.symbols m.mine.last given) parts) x.outs
               (subst (λ (es : List Thing). OutputsCorrespond thy d g.signature.outs es parts) exec_parts holds.4)
@@ -305,11 +305,11 @@ module _ (w : World) (table : Table) (symbols : List QualifiedName) (threaded : 
                   (ap (thing_of_list z.symbols) (unseen w (only y) given_outs (one_more_call u) v1 z m.to m.moves q (λ j. true_false (sym (same_number y) ∙ (ap (λ (p : ℕ). nat_eq p y) (sym (only_is y q j)) ∙ e))))
                   ∙ list_stays (table_of table.packages u.symbols) (table_of table.packages z.symbols) m.mine.grown (list_of u.stobjs q) nils (before.sound.known q i)) refl (before.kin.each q i)
 
-          by_part : IsReturned thy d g.object y z.symbols m.mine.last given parts ⊎ ((classes.stobjs outs ≡ []) × ((lists : Held) → all_held z.symbols lists given ≡ parts))
+          by_part : IsReturned thy d g.stobj y z.symbols m.mine.last given parts ⊎ ((classes.stobjs outs ≡ []) × ((lists : Held) → all_held z.symbols lists given ≡ parts))
               → MineAs w base itself scope u (logic_counted (all_held u.symbols before.lists vs)) given (record z { outer = outer })
           by_part (inl p) =
               with_part p.part
-              (view_kin g.object y d z.symbols (list_of z.stobjs y) p.part of.object seen_y
+              (view_kin g.stobj y d z.symbols (list_of z.stobjs y) p.part of.stobj seen_y
               (record {
                 corresponding =
                     subst (λ (c : Thing). CallHolds thy d.corr (c ∷ p.part ∷ [])) (plain_kin w base z.symbols x.foundation (list_of z.stobjs y) (m.mine.last y) plain_foundation (m.mine.kin.each y (only_object y))) p.corresponding;
@@ -333,7 +333,7 @@ module _ (w : World) (table : Table) (symbols : List QualifiedName) (threaded : 
           → Gets u (logic_counted (all_held s.symbols before.lists vs)) (checked_export lists_keeping limit g vs s.stobjs exec u)
       after_guard s t before [] u v after quiet tested did = absurd did.outputs
       after_guard s t before (p ∷ (q ∷ qs)) u v after quiet tested did = absurd did.outputs.1
-      after_guard s t before (Stobj p ∷ []) u v after quiet tested did = absurd did.outputs.0
+      after_guard s t before (StobjNamed p ∷ []) u v after quiet tested did = absurd did.outputs.0
       after_guard s t before (Plain o ∷ []) u v after quiet tested did =
           subst (λ (args : List Thing). Gets u (logic_counted args) (checked_export lists_keeping limit g vs s.stobjs exec u)) same_args
           (gives_counting (MineAs w base itself scope u whole) limit u (λ z. inside_after lists_keeping vs s.stobjs g.name u.outer (exec z))
@@ -357,9 +357,9 @@ module _ (w : World) (table : Table) (symbols : List QualifiedName) (threaded : 
               nil_named (symbol_at u.symbols) (λ n. n < length u.symbols) (is_naming (table_of table.packages u.symbols) did.mine.sound.table did.mine.sound.truth) o did.mine.known.0 ∙ tested
 
       follows_export : (s : State ℕ) (t : StateOf (Store ℕ)) (before : Here s t)
-          → Gets s (logic_counted (all_held s.symbols before.lists vs)) (cut_at s.outer (guarded (on_lists w threaded table.packages limit) ev g.name g.formals g.guard vs (checked_export lists_keeping limit g vs s.stobjs exec) s))
+          → Gets s (logic_counted (all_held s.symbols before.lists vs)) (cut_at s.outer (with_guard (on_lists w threaded table.packages limit) ev g.name g.formals g.guard vs (checked_export lists_keeping limit g vs s.stobjs exec) s))
       follows_export s t before =
-          gives_cut (MineAs w base itself scope s (logic_counted (all_held s.symbols before.lists vs))) s.outer (guarded (on_lists w threaded table.packages limit) ev g.name g.formals g.guard vs (checked_export lists_keeping limit g vs s.stobjs exec) s)
+          gives_cut (MineAs w base itself scope s (logic_counted (all_held s.symbols before.lists vs))) s.outer (with_guard (on_lists w threaded table.packages limit) ev g.name g.formals g.guard vs (checked_export lists_keeping limit g vs s.stobjs exec) s)
           (follows_guarded w base threaded law limit symbols ev el h f scope bg itself g.signature.ins vs a seen r g.name g.formals g.guard (logic_counted (all_held s.symbols before.lists vs)) (checked_export lists_keeping limit g vs s.stobjs exec)
           x.formals x.distinct x.guard beside.seen_in beside.suited s t before (λ given u v after quiet tested did. after_guard s t before given u v after quiet tested did))
 
@@ -374,18 +374,18 @@ module _ (w : World) (table : Table) (symbols : List QualifiedName) (threaded : 
   pub abstracts_follow : AbstractsFollow w (abstract_ground w table symbols) threaded followed.lawful limit symbols bg
   abstracts_follow = record {
     follows = λ ev el h f scope name g vs a seen r there s t before. follows_role ev el h f scope name g vs a seen r there g.role refl s t before;
-    makes = λ object c scope now stobjs sound.
-        let made : CreatorHolds thy object c.descriptor = obligations.creators object c.descriptor c.object in (
+    makes = λ stobj c scope now stobjs sound.
+        let made : CreatorHolds thy stobj c.descriptor = obligations.creators stobj c.descriptor c.stobj in (
           made.made,
-          ends_call thy (creator_of (definition w object)) [] made.made
+          ends_call thy (creator_of (definition w stobj)) [] made.made
               (rw c.there (logic_function_ends thy c.creator.logic [] made.made c.logic (call_costs thy c.creator.logic [] made.made (subst (λ (q : ℕ). CallEndsWith thy q [] made.made) (sym c.makes) made.ends)))),
           record {
-            kin = subst (λ (v : Option AbstractDescriptor). KinBy thy v (thing_of_list now (initial (layout_of w object))) made.made) (sym (ap abstract_of c.object))
+            kin = subst (λ (v : Option AbstractDescriptor). KinBy thy v (thing_of_list now (initial (layout_of w stobj))) made.made) (sym (ap abstract_of c.stobj))
                 (record {
                   corresponding =
                       subst (λ (l : Thing). CallHolds thy c.descriptor.corr (l ∷ made.made ∷ []))
-                      (ap (λ (m : Layout QualifiedName). as_object by_name (initial m)) (book_layout w base threaded law limit symbols scope bg itself now sound.grown object)
-                      ∙ initial_named (symbol_at now) (λ q. q < length now) (is_naming (table_of table.packages now) sound.table sound.truth) (layout_of w object))
+                      (ap (λ (m : Layout QualifiedName). as_object by_name (initial m)) (book_layout w base threaded law limit symbols scope bg itself now sound.grown stobj)
+                      ∙ initial_named (symbol_at now) (λ q. q < length now) (is_naming (table_of table.packages now) sound.table sound.truth) (layout_of w stobj))
                       made.corresponds;
                   well_formed = made.well_formed;
                   homes = made.homes;

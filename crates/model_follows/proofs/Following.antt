@@ -18,14 +18,14 @@ use Rattle.model_terms.specs.Classes as classes
 use Rattle.model_terms.specs.Classes.{has, congruent}
 use Rattle.model_terms.specs.Scopes.{kind_in}
 use Rattle.model_terms.specs.Sites.{one_ordinary}
-use Rattle.model_eval.specs.Outcomes.{Shown, Plain, Stobj, Steps, Stobjs, StateOf, State, OutcomeOf, Outcome, Gives, Stops, Unknown, then_with, one_more_call, counting, stops_here}
+use Rattle.model_eval.specs.Outcomes.{Shown, Plain, StobjNamed, Steps, Stobjs, StateOf, State, OutcomeOf, Outcome, Gives, Stops, Unknown, then_with, one_more_call, counting, stops_here}
 use Rattle.model_eval.specs.PlacesKeeping.{Store}
-use Rattle.model_eval.specs.Scopes.{Variables, list_of}
+use Rattle.model_eval.specs.Variables.{Variables, list_of}
 use Rattle.model_eval.specs.Evaluated.{Evaluator, EvaluatorOf}
 use Rattle.model_logic.specs.Logic.{Theory, Thing, Values}
 use Rattle.model_eval_laws.proofs.Lists.{same_number}
 use Rattle.model_accepted.specs.Threaded.{layout_of, IsFormed, Suits, IsThreaded}
-use Rattle.model_accepted.specs.Scopes.{IsStobj, AreVariables, AreOutputs}
+use Rattle.model_accepted.specs.StobjScopes.{IsStobj, AreVariables, AreOutputs}
 use Rattle.model_in_place.specs.Standing.{Stands, AreSame}
 use Rattle.model_in_place.specs.Writes.{Moves, Meet}
 use Rattle.model_accepted.specs.Accepted.{Accepted}
@@ -34,7 +34,7 @@ use Rattle.model_in_place.proofs.WriteLemmas.{stands_moved}
 use Rattle.model_in_place.proofs.CallMeeting.{May, Meets}
 use Rattle.model_in_place.proofs.LawLemmas.{unwritten}
 use Rattle.model_follows.specs.Costs.{Counted, form_counted, Ends}
-use Rattle.model_follows.specs.Worlds.{KnowsList, IsSuited}
+use Rattle.model_follows.specs.FollowedWorlds.{KnowsList, IsSuited}
 use Rattle.model_follows.specs.Follows.{thing_of_list, one_thing, KnowsAll, table_of, IsSound, IfGives}
 pub use Rattle.model_follows.specs.Held.{AreSeenIn, Lawful}
 use Rattle.model_follows.proofs.HeldThings.{Ground, Held, all_held, Kin, AreKin, itself, AreHeld, kin_same}
@@ -73,7 +73,7 @@ gives_moves w Are May Might s t (Gives vs u) Unknown m = absurd m
 gives_moves w Are May Might s t (Stops stop origin u) b m = tt
 gives_moves w Are May Might s t Unknown b m = m
 
--- ---- objects of a scope
+-- ---- stobjs of a scope
 
 pub object_or_not : (scope : Scope) (x : ℕ) → IsStobj scope x ⊎ (IsStobj scope x → ⊥)
 object_or_not scope x = go (kind_in scope x) refl
@@ -117,7 +117,7 @@ abbrev pub is_in : Out → ℕ → Bool
 is_in Ordinary x = false
 is_in (worlds.Stobj y) x = nat_eq y x
 
--- the object is in the scope
+-- the stobj is in the scope
 abbrev pub in_it : Option Out → ℕ → Bool
 in_it None x = false
 in_it (Some k) x = is_in k x
@@ -133,7 +133,7 @@ in_scope_only scope x h = go (kind_in scope x) h
     go (Some Ordinary) i = false_true i
     go (Some (worlds.Stobj y)) i = ap (λ (z : ℕ). Some (worlds.Stobj z)) (eqb-true y x i)
 
--- an object that is returned has a new list, and another the one that it had
+-- a stobj that is returned has a new list, and another the one that it had
 abbrev pub held_after : Scope → List Out → Held → Held → Held
 held_after scope expected before after = λ x. if has (classes.stobjs expected) x && in_it (kind_in scope x) x then after x else before x
 
@@ -151,16 +151,16 @@ after_unseen scope expected before after x n = go (has (classes.stobjs expected)
     go true false e = refl
     go false b e = refl
 
--- outputs have among them the objects that are returned
+-- outputs have among them the stobjs that are returned
 pub outputs_returned : (scope : Scope) (symbols : List QualifiedName) (expected kinds : List Out) (before after : Held) (vs : List (Shown ℕ)) → AreOutputs scope kinds vs
     → ((x : ℕ) → has (classes.stobjs kinds) x ≡ true → has (classes.stobjs expected) x ≡ true) → all_held symbols (held_after scope expected before after) vs ≡ all_held symbols after vs
 outputs_returned scope symbols expected [] before after [] a f = refl
 outputs_returned scope symbols expected [] before after (v ∷ vs) a f = absurd a
 outputs_returned scope symbols expected (k ∷ ks) before after [] a f = absurd a
 outputs_returned scope symbols expected (Ordinary ∷ ks) before after (Plain o ∷ vs) a f = ap (λ (os : List Thing). form_of symbols o ∷ os) (outputs_returned scope symbols expected ks before after vs a.1 f)
-outputs_returned scope symbols expected (Ordinary ∷ ks) before after (Stobj y ∷ vs) a f = absurd a.0
+outputs_returned scope symbols expected (Ordinary ∷ ks) before after (StobjNamed y ∷ vs) a f = absurd a.0
 outputs_returned scope symbols expected (worlds.Stobj x ∷ ks) before after (Plain o ∷ vs) a f = absurd a.0
-outputs_returned scope symbols expected (worlds.Stobj x ∷ ks) before after (Stobj y ∷ vs) a f =
+outputs_returned scope symbols expected (worlds.Stobj x ∷ ks) before after (StobjNamed y ∷ vs) a f =
     let first : held_after scope expected before after y ≡ after y
     = after_returned scope expected before after y (subst (IsStobj scope) (sym a.0.0) a.0.1)
     (f y (ap (λ (b : Bool). b || has (classes.stobjs ks) y) (ap (nat_eq y) (sym a.0.0) ∙ same_number y))) in
@@ -187,7 +187,7 @@ module _ (w : World) (base : Ground) where
   pub kin_less : (seen_as : ℕ → ℕ) (inner outer : Scope) (symbols : List QualifiedName) (stobjs : Stobjs ℕ) (lists : Held) → ((x : ℕ) → IsStobj inner x → IsStobj outer x) → AreKin w base seen_as outer symbols stobjs lists → AreKin w base seen_as inner symbols stobjs lists
   kin_less seen_as inner outer symbols stobjs lists f k = record { each = λ x i. k.each x (f x i) }
 
-  -- the lists of objects of the outer scope are as they were, or in the inner one
+  -- the lists of stobjs of the outer scope are as they were, or in the inner one
   pub kin_wider : (inner outer : Scope) (old new : List QualifiedName) (before after : Stobjs ℕ) (lists last : Held) → nil < length old → Extends (table_of base.table.packages old) (table_of base.table.packages new)
       → ((x : ℕ) → IsStobj outer x → KnowsList (length old) (list_of before x)) → ((x : ℕ) → (IsStobj inner x → ⊥) → list_of after x ≡ list_of before x) → ((x : ℕ) → (IsStobj inner x → ⊥) → last x ≡ lists x)
       → AreKin w base itself outer old before lists → AreKin w base itself inner new after last → AreKin w base itself outer new after last
@@ -208,7 +208,7 @@ module _ (w : World) (base : Ground) where
     recognized = λ x i. h.recognized x (f x i);
   }
 
-  -- objects of the outer scope are as they were, or are in the inner one
+  -- stobjs of the outer scope are as they were, or are in the inner one
   pub sound_wider : (inner outer : Scope) (old new : List QualifiedName) (before after : Stobjs ℕ) → IsSound w base.table outer old before → IsSound w base.table inner new after
       → Extends (table_of base.table.packages old) (table_of base.table.packages new) → ((x : ℕ) → (IsStobj inner x → ⊥) → list_of after x ≡ list_of before x)
       → IsSound w base.table outer new after
@@ -245,7 +245,7 @@ module _ (w : World) (base : Ground) where
   abbrev pub Mine : Scope → State ℕ → Counted → List (Shown ℕ) → State ℕ → Type 0
   Mine scope s logic given u = MineAs itself scope s logic given u
 
-  -- objects, and what is known of them, where a form is evaluated
+  -- stobjs, and what is known of them, where a form is evaluated
   pub record Stage (scope : Scope) (variables : Variables ℕ) (s : State ℕ) (t : StateOf (Store ℕ)) (values : Values) : Type 0 where
     pub are : AreVariables scope variables
     pub stands : Stands w scope s.stobjs t.stobjs
@@ -317,7 +317,7 @@ module _ (w : World) (base : Ground) where
   ends_held scope expected variables s t values logic given u stage d =
       subst (λ (os : List Thing). Ends logic (one_thing os)) (sym (outputs_returned scope u.symbols expected expected stage.lists d.mine.last given d.outputs (λ x h. h))) d.mine.ends
 
-  -- a form that returns no object leaves the stage
+  -- a form that returns no stobj leaves the stage
   unfoldable pub quiet_after : (scope : Scope) (variables : Variables ℕ) (s : State ℕ) (t : StateOf (Store ℕ)) (values : Values) (logic : Counted) (given : List (Shown ℕ)) (u : State ℕ)
       → Stage scope variables s t values → (d : Did scope one_ordinary s t logic given u) → Stage scope variables u d.to values
   quiet_after scope variables s t values logic given u stage d = record {

@@ -16,19 +16,19 @@ use Rattle.model_terms.specs.Cores.{Core, Cores, none, more, Var, Const, If, Let
 use Rattle.model_terms.specs.Worlds.{World, Out, Ordinary, Scope, FunctionOfAbstract, OfAbstract, definition}
 use Rattle.model_terms.specs.Worlds as worlds
 use Rattle.model_terms.specs.Classes as classes
-use Rattle.model_terms.specs.Classes.{has, repeats, is_object_name}
+use Rattle.model_terms.specs.Classes.{has, repeats, is_stobj_name}
 use Rattle.model_terms.specs.Scopes.{kind_in, name_kind, name_kinds, binding}
-use Rattle.model_terms.specs.Outputs.{object_actuals}
+use Rattle.model_terms.specs.Outputs.{stobj_actuals}
 use Rattle.model_terms.specs.Sites.{here, one_ordinary}
 use Rattle.model_terms.specs.Rules.{any_wrong_part}
-use Rattle.model_eval.specs.Outcomes.{Shown, Plain, Stobj, Depth, StateOf, State, Outcome, Gives, stops_here}
+use Rattle.model_eval.specs.Outcomes.{Shown, Plain, StobjNamed, Depth, StateOf, State, Outcome, Gives, stops_here}
 use Rattle.model_eval.specs.PlacesKeeping.{Store}
-use Rattle.model_eval.specs.Scopes.{Variables, variable_in, bound, single}
+use Rattle.model_eval.specs.Variables.{Variables, variable_in, bound, single}
 use Rattle.model_eval.specs.Evaluated.{Evaluator, EvaluatorOf, is_false, leaf, leaf_or, opened, in_order, called, evaluated, of_abstract, exec_called}
-use Rattle.model_logic.specs.Logic.{Theory, Thing, Values, value_in, bind, elements, found, form_value, creator_of}
+use Rattle.model_logic.specs.Logic.{Theory, Thing, Values, value_in, bind, element_values, found, form_value, creator_of}
 use Rattle.model_logic.specs.LogicFunctions.{as_list}
 use Rattle.model_accepted.specs.Threaded.{layout_of, AreFormed, IsThreaded}
-use Rattle.model_accepted.specs.Scopes.{IsStobj, AreVariables, AreOutputs}
+use Rattle.model_accepted.specs.StobjScopes.{IsStobj, AreVariables, AreOutputs}
 use Rattle.model_in_place.specs.Standing.{Stands, AreSame}
 use Rattle.model_in_place.specs.Calls.{names_in, AreArguments}
 use Rattle.model_accepted.specs.Accepted.{Accepted, PartsAccepted, ActualsAccepted}
@@ -39,7 +39,7 @@ use Rattle.model_in_place.proofs.CallMeeting.{on_lists, at_places, Meets}
 use Rattle.model_in_place.proofs.PartMeeting.{IsCalled, called_is, all_of}
 use Rattle.model_in_place.proofs.FormMeeting.{length_kinds, meets_evaluated}
 use Rattle.model_follows.specs.Costs.{Counted, caller, form_counted, Ends}
-use Rattle.model_follows.specs.Worlds.{HasCreator, HasAbstractCreator, IsSuited, AreSuited}
+use Rattle.model_follows.specs.FollowedWorlds.{HasCreator, HasAbstractCreator, IsSuited, AreSuited}
 use Rattle.model_lists.specs.Layouts.{initial}
 use Rattle.model_follows.proofs.HeldThings.{Ground, Held, held, all_held, Kin, AreKin, itself}
 use Rattle.model_follows.proofs.FormalThings.{AreSeen}
@@ -55,16 +55,16 @@ use Rattle.model_follows.proofs.LocalThings.{IsMadeInLogic, new_object}
 use Rattle.model_follows.proofs.LocalFollowing.{follows_local}
 use Rattle.model_follows.proofs.CalledFollowing.{CallMine, defined_counted, Calling, follows_called, AbstractsFollow}
 
--- ---- parts that change no object
+-- ---- parts that change no stobj
 
-quiet_names : (c : World) (names : List ℕ) (forms : Cores) → list_any (is_object_name c) names ≡ false → AreQuiet (name_kinds c names) forms
+quiet_names : (c : World) (names : List ℕ) (forms : Cores) → list_any (is_stobj_name c) names ≡ false → AreQuiet (name_kinds c names) forms
 quiet_names c [] forms e = tt
 quiet_names c (x ∷ xs) none e = by_kind (name_kind c x)
   where
     by_kind : (k : Out) → AreQuiet (k ∷ name_kinds c xs) none
     by_kind k = tt
 quiet_names c (x ∷ xs) (more form forms) e =
-    let both : (is_object_name c x ≡ false) × (list_any (is_object_name c) xs ≡ false) = neither (is_object_name c x) (list_any (is_object_name c) xs) e in
+    let both : (is_stobj_name c x ≡ false) × (list_any (is_stobj_name c) xs ≡ false) = neither (is_stobj_name c x) (list_any (is_stobj_name c) xs) e in
     subst (λ (k : Out). AreQuiet (k ∷ name_kinds c xs) (more form forms)) (sym (name_is_ordinary c x both.0)) (quiet_names c xs forms both.1)
 
 variable_is : (x : ℕ) (form : Core) → option_map_or (nat_eq x) (variable form) false ≡ true → form ≡ Var x
@@ -75,7 +75,7 @@ variable_is x (Let names bound body) e = false_true e
 variable_is x (Mv parts) e = false_true e
 variable_is x (MvLet names bound body) e = false_true e
 variable_is x (StobjLet names bound vars producer consumer) e = false_true e
-variable_is x (WithLocal object names producer body) e = false_true e
+variable_is x (WithLocal stobj names producer body) e = false_true e
 variable_is x (MustBeEqual logic exec) e = false_true e
 variable_is x (Call f actuals) e = false_true e
 
@@ -127,7 +127,7 @@ module _ (w : World) (base : Ground) (threaded : IsThreaded w) (followed : Lawfu
   follows_leaf c mode scope (Mv parts) formal expected variables s t values a k form stage = k form stage
   follows_leaf c mode scope (MvLet names bind body) formal expected variables s t values a k form stage = k form stage
   follows_leaf c mode scope (StobjLet names forms vars producer consumer) formal expected variables s t values a k form stage = k form stage
-  follows_leaf c mode scope (WithLocal object names producer body) formal expected variables s t values a k form stage = k form stage
+  follows_leaf c mode scope (WithLocal stobj names producer body) formal expected variables s t values a k form stage = k form stage
   follows_leaf c mode scope (MustBeEqual logic exec) formal expected variables s t values a k form stage = k form stage
   follows_leaf c mode scope (Call f actuals) formal expected variables s t values a k form stage = k form stage
 
@@ -192,9 +192,9 @@ module _ (w : World) (base : Ground) (threaded : IsThreaded w) (followed : Lawfu
         new : Table
         new = table_of base.table.packages u.symbols
 
-    -- an object that is bound to what one form gives
+    -- a stobj that is bound to what one form gives
     follows_object : (c : World) (mode : Mode) (scope : Scope) (names : List ℕ) (forms : Cores) (body : Core) (expected : List Out) (variables : Variables ℕ) (s : State ℕ) (t : StateOf (Store ℕ)) (values : Values)
-        → list_any (is_object_name c) names ≡ true → nat_eq (length names) 1 ≡ true → Suited w base c → mode ≢ Logic → PartsAccepted c mode scope (name_kinds c names) forms → AreFormed c forms → AreSuited w (length base.table.symbols) forms
+        → list_any (is_stobj_name c) names ≡ true → nat_eq (length names) 1 ≡ true → Suited w base c → mode ≢ Logic → PartsAccepted c mode scope (name_kinds c names) forms → AreFormed c forms → AreSuited w (length base.table.symbols) forms
         → count forms ≡ length names → Form w base c mode (binding c scope names) body None expected → Stage w base scope variables s t values
         → IfGives (Mine w base scope s (form_counted thy (Let names forms body) values)) (in_order (on_lists w threaded base.table.packages limit) ev forms variables [] (λ given after. ev body (bound names given variables) after) s)
     unfolding form_value AreSuited AreFormed in_order
@@ -219,12 +219,12 @@ module _ (w : World) (base : Ground) (threaded : IsThreaded w) (followed : Lawfu
             (λ r j. ends_then (form_counted thy g values) (λ o. form_counted thy body (bind (x ∷ []) (o ∷ []) values)) thing r (ends_held w base scope (name_kinds c (x ∷ [])) variables s t values (form_counted thy g values) (v ∷ []) u stage d) j) m)
             (follows_body c mode scope (x ∷ []) body expected variables values s t (form_counted thy g values) (v ∷ []) u form stage d)
 
-    -- a new object
-    initial_made : (scope : Scope) (object : ℕ) (s : State ℕ) → IsSound w base.table scope s.symbols s.stobjs → HasCreator w object ⊎ HasAbstractCreator w object → IsMadeInLogic w base threaded followed limit symbols bg ev el h f object s.symbols
-    initial_made scope object s sound (inl creator) = new_object w base threaded followed limit symbols bg ev el h f scope object s.symbols s.stobjs sound creator
-    initial_made scope object s sound (inr creator) =
-        let new : (made : Thing) × Ends (λ budget nest start. caller thy budget nest (creator_of (definition w object)) [] start) made × Kin w base s.symbols object (initial (layout_of w object)) made
-        = abstracts.makes object creator scope s.symbols s.stobjs sound in
+    -- a new stobj
+    initial_made : (scope : Scope) (stobj : ℕ) (s : State ℕ) → IsSound w base.table scope s.symbols s.stobjs → HasCreator w stobj ⊎ HasAbstractCreator w stobj → IsMadeInLogic w base threaded followed limit symbols bg ev el h f stobj s.symbols
+    initial_made scope stobj s sound (inl creator) = new_object w base threaded followed limit symbols bg ev el h f scope stobj s.symbols s.stobjs sound creator
+    initial_made scope stobj s sound (inr creator) =
+        let new : (made : Thing) × Ends (λ budget nest start. caller thy budget nest (creator_of (definition w stobj)) [] start) made × Kin w base s.symbols stobj (initial (layout_of w stobj)) made
+        = abstracts.makes stobj creator scope s.symbols s.stobjs sound in
         record { made = new.0; makes = new.1; kin = new.2 }
 
     follows_opened : (c : World) (mode : Mode) (scope : Scope) (form : Core) (formal : Option ℕ) (expected : List Out) (variables : Variables ℕ) (s : State ℕ) (t : StateOf (Store ℕ)) (values : Values)
@@ -246,7 +246,7 @@ module _ (w : World) (base : Ground) (threaded : IsThreaded w) (followed : Lawfu
             → IfGives (Mine w base scope s (form_counted thy (If test b d) values)) (ev (if is_false (on_lists w threaded base.table.packages limit) vs then d else b) variables u)
         after [] u done first second = absurd done.outputs
         after (v ∷ (x ∷ xs)) u done first second = absurd done.outputs.1
-        after (Stobj x ∷ []) u done first second = absurd done.outputs.0
+        after (StobjNamed x ∷ []) u done first second = absurd done.outputs.0
         after (Plain o ∷ []) u done first second =
             by_test (is_nil by_number o) (nil_named (symbol_at u.symbols) (λ n. n < length u.symbols) (is_naming (table_of base.table.packages u.symbols) done.mine.sound.table done.mine.sound.truth) o done.mine.known.0)
           where
@@ -264,7 +264,7 @@ module _ (w : World) (base : Ground) (threaded : IsThreaded w) (followed : Lawfu
             by_test true e = chosen true d e (λ v j. subst (λ (r : Bool). Ends (λ budget nest start. if r then form_counted thy d values budget nest start else form_counted thy b values budget nest start) v) (sym e) j) second
             by_test false e = chosen false b e (λ v j. subst (λ (r : Bool). Ends (λ budget nest start. if r then form_counted thy d values budget nest start else form_counted thy b values budget nest start) v) (sym e) j) first
     follows_opened c mode scope (Let names forms body) formal expected variables s t values form stage =
-        by_names (list_any (is_object_name c) names) refl
+        by_names (list_any (is_stobj_name c) names) refl
       where
         parts : PartsAccepted c mode scope (name_kinds c names) forms × Accepted c mode (binding c scope names) body None expected
         parts = of_let c mode scope formal expected names forms body form.accepted
@@ -281,7 +281,7 @@ module _ (w : World) (base : Ground) (threaded : IsThreaded w) (followed : Lawfu
         go : List (Shown ℕ) → State ℕ → Outcome ℕ
         go given after = ev body (bound names given variables) after
 
-        by_names : (q : Bool) → list_any (is_object_name c) names ≡ q
+        by_names : (q : Bool) → list_any (is_stobj_name c) names ≡ q
             → IfGives (Mine w base scope s (form_counted thy (Let names forms body) values)) (in_order (on_lists w threaded base.table.packages limit) ev forms variables [] go s)
         by_names true e =
             follows_object c mode scope names forms body expected variables s t values e
@@ -314,17 +314,17 @@ module _ (w : World) (base : Ground) (threaded : IsThreaded w) (followed : Lawfu
         let long : length things ≡ length names = length_things u.symbols lists vs ∙ (length_outputs scope (name_kinds c names) vs d.outputs ∙ length_kinds c names) in
         gives_map (Mine w base scope u (form_counted thy body (bind names things values))) (Mine w base scope s (form_counted thy (MvLet names bnd body) values)) (ev body (bound names vs variables) u)
         (λ given q m. mine_before w base scope s u (form_counted thy body (bind names things values)) (form_counted thy (MvLet names bnd body) values) given q d.mine.grown
-        (λ r j. ends_then (form_counted thy bnd values) (λ o. form_counted thy body (bind names (elements names 0 o) values)) (one_thing things) r (ends_held w base scope (name_kinds c names) variables s t values (form_counted thy bnd values) vs u stage d)
+        (λ r j. ends_then (form_counted thy bnd values) (λ o. form_counted thy body (bind names (element_values names 0 o) values)) (one_thing things) r (ends_held w base scope (name_kinds c names) variables s t values (form_counted thy bnd values) vs u stage d)
         (subst (λ (os : List Thing). Ends (form_counted thy body (bind names os values)) r)
-        (sym (ap (elements names 0) (one_of_several things (subst (λ (n : ℕ). 2 ≤ n) (sym long) form.suited.0)) ∙ elements_are names things (sym long))) j)) m)
+        (sym (ap (element_values names 0) (one_of_several things (subst (λ (n : ℕ). 2 ≤ n) (sym long) form.suited.0)) ∙ elements_are names things (sym long))) j)) m)
         (follows_body c mode scope names body expected variables values s t (form_counted thy bnd values) vs u
         (record { suited_world = form.suited_world; runs = form.runs; accepted = parts.1; formed = form.formed.1; suited = form.suited.2 }) stage d))
     follows_opened c mode scope (StobjLet names forms vars producer consumer) formal expected variables s t values form stage =
         follows_stobj_let w base threaded followed limit symbols bg ev el h f c mode scope names forms vars producer consumer formal expected variables s t values form.suited_world form.runs form.accepted form.formed.0 form.formed.1
         form.suited.0 form.suited.1 stage
-    follows_opened c mode scope (WithLocal object names producer body) formal expected variables s t values form stage =
-        follows_local w base threaded followed limit symbols bg ev el h f c mode scope object names producer body formal expected variables s t values form.suited_world form.runs form.accepted form.formed.0 form.formed.1
-        form.suited.0 (initial_made scope object s stage.sound form.suited.1) form.suited.2 form.suited.3 stage
+    follows_opened c mode scope (WithLocal stobj names producer body) formal expected variables s t values form stage =
+        follows_local w base threaded followed limit symbols bg ev el h f c mode scope stobj names producer body formal expected variables s t values form.suited_world form.runs form.accepted form.formed.0 form.formed.1
+        form.suited.0 (initial_made scope stobj s stage.sound form.suited.1) form.suited.2 form.suited.3 stage
     follows_opened c mode scope (MustBeEqual logic exec) formal expected variables s t values form stage =
         f.follows c mode scope logic None expected
         (record { suited_world = form.suited_world; runs = form.runs; accepted = (of_must_be_equal c mode scope formal expected logic exec form.accepted).0; formed = form.formed.0; suited = form.suited }) variables s t values stage
@@ -335,7 +335,7 @@ module _ (w : World) (base : Ground) (threaded : IsThreaded w) (followed : Lawfu
         (called (on_lists w threaded base.table.packages limit) ev g) (λ os budget nest start. caller thy budget nest g os start) s t
         (subst (λ (ins : List Out). ActualsAccepted c mode scope ins actuals) call.ins (of_call c mode scope formal expected g actuals form.accepted)) form.formed.1 form.suited call.arity stage
         (λ vs all u v a seen same st quiet known.
-        let once : repeats (names_in vs) ≡ false = ap repeats (sym (all_of w threaded base.table.packages limit ev el h c mode scope form.suited_world.suits form.runs variables stage.are (object_actuals call.signature.ins actuals) (names_in vs) a.there)) ∙ call.once in
+        let once : repeats (names_in vs) ≡ false = ap repeats (sym (all_of w threaded base.table.packages limit ev el h c mode scope form.suited_world.suits form.runs variables stage.are (stobj_actuals call.signature.ins actuals) (names_in vs) a.there)) ∙ call.once in
         subst (λ (given : List (Shown ℕ)). IfGives (Mine w base scope u (λ budget nest start. caller thy budget nest g (all_held u.symbols st.lists vs) start)) (called (on_lists w threaded base.table.packages limit) ev g given u)) (sym same)
         (follows_called w base threaded followed limit symbols ev el h f scope bg itself call.signature.ins vs a.arguments seen once g call.signature refl call.runs_there u v
         (record { stands = st.stands; same = st.same; sound = st.sound; known = known; lists = st.lists; kin = st.kin }) (abstract_called vs g call.signature.ins a.arguments seen once)))

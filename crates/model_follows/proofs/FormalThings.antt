@@ -14,43 +14,43 @@ use Rattle.model_terms.specs.Worlds.{World, Out, Ordinary, Scope}
 use Rattle.model_terms.specs.Worlds as worlds
 use Rattle.model_terms.specs.Classes.{has, repeats}
 use Rattle.model_terms.specs.Scopes.{kind_in}
-use Rattle.model_eval.specs.Outcomes.{Shown, Plain, Stobj, Stobjs}
+use Rattle.model_eval.specs.Outcomes.{Shown, Plain, StobjNamed, Stobjs}
 use Rattle.model_eval.specs.Keeping.{outer_value}
-use Rattle.model_eval.specs.Scopes.{variable_in, inner_variables, list_of, with_list}
+use Rattle.model_eval.specs.Variables.{variable_in, inner_variables, list_of, with_list}
 use Rattle.model_logic.specs.Logic.{Thing, value_in, bind}
 use Rattle.model_eval_laws.proofs.Lists.{same_number}
 use Rattle.model_accepted.specs.Threaded.{layout_of, AreFormals, formal_entries}
-use Rattle.model_accepted.specs.Scopes.{IsStobj, AreOutputs}
+use Rattle.model_accepted.specs.StobjScopes.{IsStobj, AreOutputs}
 use Rattle.model_in_place.specs.Calls.{Pairs, pairs_of, firsts, seconds, actual, lists_for, writes_out, AreArguments}
 use Rattle.model_in_place.specs.Writes.{Write, stobjs_after, AreWrites}
 use Rattle.model_accepted.proofs.AcceptLemmas.{false_true, true_false, neither}
 use Rattle.model_in_place.proofs.ObjectLemmas.{equal_or_not, list_other}
 use Rattle.model_in_place.proofs.CallLemmas.{actual_for_is, list_for, pair_object}
 use Rattle.model_in_place.proofs.FormalLemmas.{pairs_are, formal_first}
-use Rattle.model_follows.specs.Worlds.{KnowsList}
+use Rattle.model_follows.specs.FollowedWorlds.{KnowsList}
 use Rattle.model_follows.specs.Follows.{KnowsShown, KnowsAll, table_of, IsSound}
 use Rattle.model_follows.proofs.HeldThings.{Ground, Held, held, all_held, AreHeld, Kin, AreKin, kin_alike}
 use Rattle.model_follows.proofs.ThingLemmas.{knows_nil}
 
 -- ---- the variables of a body
 
-inner_named : (xs : List ℕ) (vs : List (Shown ℕ)) (x q : ℕ) → variable_in by_number (inner_variables xs vs) x ≡ Stobj q → q ≡ x
+inner_named : (xs : List ℕ) (vs : List (Shown ℕ)) (x q : ℕ) → variable_in by_number (inner_variables xs vs) x ≡ StobjNamed q → q ≡ x
 inner_named [] vs x q e = cc
 inner_named (y ∷ ys) [] x q e = cc
 inner_named (y ∷ ys) (Plain o ∷ vs) x q e = go (nat_eq x y) e (inner_named ys vs x q)
   where
-    go : (b : Bool) → (if b then Plain o else variable_in by_number (inner_variables ys vs) x) ≡ Stobj q → (variable_in by_number (inner_variables ys vs) x ≡ Stobj q → q ≡ x) → q ≡ x
+    go : (b : Bool) → (if b then Plain o else variable_in by_number (inner_variables ys vs) x) ≡ StobjNamed q → (variable_in by_number (inner_variables ys vs) x ≡ StobjNamed q → q ≡ x) → q ≡ x
     go true f later = plain_is f
       where
-        plain_is : Plain o ≡ Stobj q → q ≡ x
+        plain_is : Plain o ≡ StobjNamed q → q ≡ x
         plain_is g = cc
     go false f later = later f
-inner_named (y ∷ ys) (Stobj z ∷ vs) x q e = go (nat_eq x y) refl e (inner_named ys vs x q)
+inner_named (y ∷ ys) (StobjNamed z ∷ vs) x q e = go (nat_eq x y) refl e (inner_named ys vs x q)
   where
-    same : ◌≡◌ {A = Shown ℕ} (Stobj y) (Stobj q) → q ≡ y
+    same : ◌≡◌ {A = Shown ℕ} (StobjNamed y) (StobjNamed q) → q ≡ y
     same g = cc
 
-    go : (b : Bool) → nat_eq x y ≡ b → (if b then Stobj y else variable_in by_number (inner_variables ys vs) x) ≡ Stobj q → (variable_in by_number (inner_variables ys vs) x ≡ Stobj q → q ≡ x) → q ≡ x
+    go : (b : Bool) → nat_eq x y ≡ b → (if b then StobjNamed y else variable_in by_number (inner_variables ys vs) x) ≡ StobjNamed q → (variable_in by_number (inner_variables ys vs) x ≡ StobjNamed q → q ≡ x) → q ≡ x
     go true g f later = same f ∙ sym (eqb-true x y g)
     go false g f later = later f
 
@@ -74,17 +74,17 @@ module _ (symbols : List QualifiedName) (lists : Held) (at_nil : symbol_at symbo
           → (if b then held symbols lists (Plain o) else value_in (bind ys (all_held symbols lists vs) []) x) ≡ held symbols (held_for (pairs_of ys vs) lists) (if b then Plain o else variable_in by_number (inner_variables ys vs) x)
       go true later = refl
       go false later = later
-  formal_thing (y ∷ ys) (Stobj z ∷ vs) x = go (nat_eq x y) refl (formal_thing ys vs x)
+  formal_thing (y ∷ ys) (StobjNamed z ∷ vs) x = go (nat_eq x y) refl (formal_thing ys vs x)
     where
       more : Held
       more = held_for ((y, z) ∷ pairs_of ys vs) lists
 
-      passed : (v : Shown ℕ) → ((q : ℕ) → v ≡ Stobj q → nat_eq q y ≡ false) → held symbols more v ≡ held symbols (held_for (pairs_of ys vs) lists) v
+      passed : (v : Shown ℕ) → ((q : ℕ) → v ≡ StobjNamed q → nat_eq q y ≡ false) → held symbols more v ≡ held symbols (held_for (pairs_of ys vs) lists) v
       passed (Plain o) d = refl
-      passed (Stobj q) d = rw (d q refl) refl
+      passed (StobjNamed q) d = rw (d q refl) refl
 
       go : (b : Bool) → nat_eq x y ≡ b → value_in (bind ys (all_held symbols lists vs) []) x ≡ held symbols (held_for (pairs_of ys vs) lists) (variable_in by_number (inner_variables ys vs) x)
-          → (if b then held symbols lists (Stobj z) else value_in (bind ys (all_held symbols lists vs) []) x) ≡ held symbols more (if b then Stobj y else variable_in by_number (inner_variables ys vs) x)
+          → (if b then held symbols lists (StobjNamed z) else value_in (bind ys (all_held symbols lists vs) []) x) ≡ held symbols more (if b then StobjNamed y else variable_in by_number (inner_variables ys vs) x)
       go true e later = rw (same_number y) refl
       go false e later =
           later ∙ sym (passed (variable_in by_number (inner_variables ys vs) x) (λ q f. ap (λ (u : ℕ). nat_eq u y) (inner_named ys vs x q f) ∙ e))
@@ -97,9 +97,9 @@ formal_known n (y ∷ ys) (Plain o ∷ vs) x l k = go (nat_eq x y) (formal_known
     go : (b : Bool) → KnowsShown n (variable_in by_number (inner_variables ys vs) x) → KnowsShown n (if b then Plain o else variable_in by_number (inner_variables ys vs) x)
     go true later = k.0
     go false later = later
-formal_known n (y ∷ ys) (Stobj z ∷ vs) x l k = go (nat_eq x y) (formal_known n ys vs x l k.1)
+formal_known n (y ∷ ys) (StobjNamed z ∷ vs) x l k = go (nat_eq x y) (formal_known n ys vs x l k.1)
   where
-    go : (b : Bool) → KnowsShown n (variable_in by_number (inner_variables ys vs) x) → KnowsShown n (if b then Stobj y else variable_in by_number (inner_variables ys vs) x)
+    go : (b : Bool) → KnowsShown n (variable_in by_number (inner_variables ys vs) x) → KnowsShown n (if b then StobjNamed y else variable_in by_number (inner_variables ys vs) x)
     go true later = tt
     go false later = later
 
@@ -153,7 +153,7 @@ back_other (p ∷ ps) inside lists y h =
     let both : (nat_eq y p.1 ≡ false) × (has (seconds ps) y ≡ false) = neither (nat_eq y p.1) (has (seconds ps) y) h in
     ap (λ (b : Bool). if b then inside p.0 else held_back ps inside lists y) both.0 ∙ back_other ps inside lists y both.1
 
--- an object is the actual of a formal, or of none
+-- a stobj is the actual of a formal, or of none
 pub actual_or_not : (ps : Pairs) (y : ℕ) → repeats (firsts ps) ≡ false → ((x : ℕ) × (has (firsts ps) x ≡ true) × (y ≡ actual ps x)) ⊎ (has (seconds ps) y ≡ false)
 actual_or_not [] y r = inr refl
 actual_or_not (p ∷ ps) y r =
@@ -179,7 +179,7 @@ AreSeen g seen_as [] vs = Unit {0}
 AreSeen g seen_as (k ∷ ks) [] = Unit {0}
 AreSeen g seen_as (Ordinary ∷ ks) (v ∷ vs) = AreSeen g seen_as ks vs
 AreSeen g seen_as (worlds.Stobj x ∷ ks) (Plain o ∷ vs) = AreSeen g seen_as ks vs
-AreSeen g seen_as (worlds.Stobj x ∷ ks) (Stobj y ∷ vs) = (g.view x ≡ g.view (seen_as y)) × AreSeen g seen_as ks vs
+AreSeen g seen_as (worlds.Stobj x ∷ ks) (StobjNamed y ∷ vs) = (g.view x ≡ g.view (seen_as y)) × AreSeen g seen_as ks vs
 
 pub formal_seen : (w : World) (g : Ground) (seen_as : ℕ → ℕ) (scope : Scope) (xs : List ℕ) (ks : List Out) (vs : List (Shown ℕ)) (x : ℕ) → AreFormals xs ks → AreArguments w scope ks vs → AreSeen g seen_as ks vs
     → has (firsts (pairs_of xs vs)) x ≡ true → g.view x ≡ g.view (seen_as (actual (pairs_of xs vs) x))
@@ -187,16 +187,16 @@ formal_seen w g seen_as scope [] ks vs x f a s h = false_true h
 formal_seen w g seen_as scope (y ∷ ys) [] vs x f a s h = absurd f
 formal_seen w g seen_as scope (y ∷ ys) (k ∷ ks) [] x f a s h = absurd a
 formal_seen w g seen_as scope (y ∷ ys) (Ordinary ∷ ks) (Plain o ∷ vs) x f a s h = formal_seen w g seen_as scope ys ks vs x f a.1 s h
-formal_seen w g seen_as scope (y ∷ ys) (Ordinary ∷ ks) (Stobj z ∷ vs) x f a s h = absurd a.0
+formal_seen w g seen_as scope (y ∷ ys) (Ordinary ∷ ks) (StobjNamed z ∷ vs) x f a s h = absurd a.0
 formal_seen w g seen_as scope (y ∷ ys) (worlds.Stobj q ∷ ks) (Plain o ∷ vs) x f a s h = absurd a.0
-formal_seen w g seen_as scope (y ∷ ys) (worlds.Stobj q ∷ ks) (Stobj z ∷ vs) x f a s h = go (nat_eq x y) refl h (formal_seen w g seen_as scope ys ks vs x f.1 a.1 s.1)
+formal_seen w g seen_as scope (y ∷ ys) (worlds.Stobj q ∷ ks) (StobjNamed z ∷ vs) x f a s h = go (nat_eq x y) refl h (formal_seen w g seen_as scope ys ks vs x f.1 a.1 s.1)
   where
     go : (b : Bool) → nat_eq x y ≡ b → (b || has (firsts (pairs_of ys vs)) x) ≡ true → (has (firsts (pairs_of ys vs)) x ≡ true → g.view x ≡ g.view (seen_as (actual (pairs_of ys vs) x)))
         → g.view x ≡ g.view (seen_as (if b then z else actual (pairs_of ys vs) x))
     go true e i later = ap g.view (eqb-true x y e ∙ sym f.0) ∙ s.0
     go false e i later = later i
 
--- an object among the formals
+-- a stobj among the formals
 formal_among : (xs : List ℕ) (vs : List (Shown ℕ)) (x : ℕ) → has (firsts (pairs_of xs vs)) x ≡ true → has xs x ≡ true
 formal_among [] vs x h = false_true h
 formal_among (y ∷ ys) [] x h = false_true h
@@ -205,7 +205,7 @@ formal_among (y ∷ ys) (Plain o ∷ vs) x h = go (nat_eq x y) (formal_among ys 
     go : (b : Bool) → has ys x ≡ true → (b || has ys x) ≡ true
     go true e = refl
     go false e = e
-formal_among (y ∷ ys) (Stobj z ∷ vs) x h = go (nat_eq x y) h (formal_among ys vs x)
+formal_among (y ∷ ys) (StobjNamed z ∷ vs) x h = go (nat_eq x y) h (formal_among ys vs x)
   where
     go : (b : Bool) → (b || has (firsts (pairs_of ys vs)) x) ≡ true → (has (firsts (pairs_of ys vs)) x ≡ true → has ys x ≡ true) → (b || has ys x) ≡ true
     go true e later = refl
@@ -218,22 +218,22 @@ no_kind (y ∷ ys) (k ∷ ks) x h =
     let both : (nat_eq x y ≡ false) × (has ys x ≡ false) = neither (nat_eq x y) (has ys x) h in
     rw (no_kind ys ks x both.1, both.0) refl
 
-pub formal_object : (w : World) (scope : Scope) (xs : List ℕ) (ks : List Out) (vs : List (Shown ℕ)) (x : ℕ) → AreFormals xs ks → repeats xs ≡ false → AreArguments w scope ks vs
+pub formal_stobj : (w : World) (scope : Scope) (xs : List ℕ) (ks : List Out) (vs : List (Shown ℕ)) (x : ℕ) → AreFormals xs ks → repeats xs ≡ false → AreArguments w scope ks vs
     → has (firsts (pairs_of xs vs)) x ≡ true → IsStobj (formal_entries xs ks) x
-formal_object w scope [] ks vs x f r a h = false_true h
-formal_object w scope (y ∷ ys) [] vs x f r a h = absurd f
-formal_object w scope (y ∷ ys) (k ∷ ks) [] x f r a h = absurd a
-formal_object w scope (y ∷ ys) (Ordinary ∷ ks) (Stobj z ∷ vs) x f r a h = absurd a.0
-formal_object w scope (y ∷ ys) (worlds.Stobj q ∷ ks) (Plain o ∷ vs) x f r a h = absurd a.0
-formal_object w scope (y ∷ ys) (Ordinary ∷ ks) (Plain o ∷ vs) x f r a h =
+formal_stobj w scope [] ks vs x f r a h = false_true h
+formal_stobj w scope (y ∷ ys) [] vs x f r a h = absurd f
+formal_stobj w scope (y ∷ ys) (k ∷ ks) [] x f r a h = absurd a
+formal_stobj w scope (y ∷ ys) (Ordinary ∷ ks) (StobjNamed z ∷ vs) x f r a h = absurd a.0
+formal_stobj w scope (y ∷ ys) (worlds.Stobj q ∷ ks) (Plain o ∷ vs) x f r a h = absurd a.0
+formal_stobj w scope (y ∷ ys) (Ordinary ∷ ks) (Plain o ∷ vs) x f r a h =
     let both : (has ys y ≡ false) × (repeats ys ≡ false) = neither (has ys y) (repeats ys) r in
-    go (formal_object w scope ys ks vs x f both.1 a.1 h)
+    go (formal_stobj w scope ys ks vs x f both.1 a.1 h)
   where
     go : IsStobj (formal_entries ys ks) x → option_or (kind_in (formal_entries ys ks) x) (if nat_eq x y then Some Ordinary else None) ≡ Some (worlds.Stobj x)
     go later = ap (λ (k : Option Out). option_or k (if nat_eq x y then Some Ordinary else None)) later
-formal_object w scope (y ∷ ys) (worlds.Stobj q ∷ ks) (Stobj z ∷ vs) x f r a h =
+formal_stobj w scope (y ∷ ys) (worlds.Stobj q ∷ ks) (StobjNamed z ∷ vs) x f r a h =
     let both : (has ys y ≡ false) × (repeats ys ≡ false) = neither (has ys y) (repeats ys) r in
-    go (nat_eq x y) refl h both.0 (formal_object w scope ys ks vs x f.1 both.1 a.1)
+    go (nat_eq x y) refl h both.0 (formal_stobj w scope ys ks vs x f.1 both.1 a.1)
   where
     go : (b : Bool) → nat_eq x y ≡ b → (b || has (firsts (pairs_of ys vs)) x) ≡ true → has ys y ≡ false → (has (firsts (pairs_of ys vs)) x ≡ true → IsStobj (formal_entries ys ks) x)
         → option_or (kind_in (formal_entries ys ks) x) (if b then Some (worlds.Stobj q) else None) ≡ Some (worlds.Stobj x)
@@ -288,12 +288,12 @@ module _ (w : World) (base : Ground) (scope : Scope) (xs : List ℕ) (ks : List 
   things_outside symbols lists [] (v ∷ values) h = absurd h
   things_outside symbols lists (k ∷ outs) [] h = absurd h
   things_outside symbols lists (Ordinary ∷ outs) (Plain o ∷ values) h = ap (λ (os : List Thing). held symbols lists (Plain o) ∷ os) (things_outside symbols lists outs values h.1)
-  things_outside symbols lists (Ordinary ∷ outs) (Stobj y ∷ values) h = absurd h.0
+  things_outside symbols lists (Ordinary ∷ outs) (StobjNamed y ∷ values) h = absurd h.0
   things_outside symbols lists (worlds.Stobj x ∷ outs) (Plain o ∷ values) h = absurd h.0
-  things_outside symbols lists (worlds.Stobj x ∷ outs) (Stobj y ∷ values) h =
+  things_outside symbols lists (worlds.Stobj x ∷ outs) (StobjNamed y ∷ values) h =
       rw (actual_for_is xs vs y, things_outside symbols lists outs values h.1) refl
 
   pub known_outside : (n : ℕ) (values : List (Shown ℕ)) → KnowsAll n values → KnowsAll n (map (outer_value xs vs) values)
   known_outside n [] k = tt
   known_outside n (Plain o ∷ values) k = (k.0, known_outside n values k.1)
-  known_outside n (Stobj y ∷ values) k = (tt, known_outside n values k.1)
+  known_outside n (StobjNamed y ∷ values) k = (tt, known_outside n values k.1)

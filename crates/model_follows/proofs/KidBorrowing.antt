@@ -14,14 +14,14 @@ use Rattle.model_terms.specs.Worlds.{World, Definition, GeneratedFunction, Gener
 use Rattle.model_terms.specs.Worlds as worlds
 use Rattle.model_terms.specs.Classes.{has}
 use Rattle.model_terms.specs.Scopes.{kind_in}
-use Rattle.model_eval.specs.Outcomes.{Shown, Plain, Stobj, Stobjs, StateOf, State, Outcome, one_more_call, stops_here, Guard}
+use Rattle.model_eval.specs.Outcomes.{Shown, Plain, StobjNamed, Stobjs, StateOf, State, Outcome, one_more_call, stops_here, Guard}
 use Rattle.model_eval.specs.PlacesKeeping.{Store}
-use Rattle.model_eval.specs.Scopes.{Variables, variable_in, list_of}
+use Rattle.model_eval.specs.Variables.{Variables, variable_in, list_of}
 use Rattle.model_eval.specs.Evaluated.{Rules, Evaluator, EvaluatorOf, leaf_object, index_of, loan_of, borrowing, borrowed_from, borrowed, all_borrowed}
 use Rattle.model_logic.specs.Logic.{Theory, Thing, Values, value_in, bind, logic_loans, index_value}
 use Rattle.model_eval_laws.specs.Scope.{names}
 use Rattle.model_accepted.specs.Threaded.{IsThreaded}
-use Rattle.model_accepted.specs.Scopes.{IsStobj, IsOfKind, AreVariables}
+use Rattle.model_accepted.specs.StobjScopes.{IsStobj, IsOfKind, AreVariables}
 use Rattle.model_accepted.proofs.AcceptLemmas.{false_true, both_true}
 use Rattle.model_accepted.proofs.ScopeLemmas.{some_same, none_some}
 use Rattle.model_in_place.proofs.WriteLemmas.{counted_same}
@@ -29,9 +29,9 @@ use Rattle.model_in_place.proofs.CallMeeting.{on_lists, Meets}
 use Rattle.std.specs.Option.{option_map_or}
 use Rattle.std.proofs.lemmas.List.{append_assoc}
 use Rattle.model_objects.specs.Object.{Integer, Symbol, Text, Pair, named}
-use Rattle.model_terms.specs.Nested.{BoundChild, bound_children, child_object, same_kind, is_ordinary_in, is_index, have_indices, bindings_hold, stobj_let_holds}
+use Rattle.model_terms.specs.Nested.{BoundChild, bound_children, child_stobj, same_kind, is_ordinary_in, is_index, have_indices, bindings_hold, stobj_let_holds}
 use Rattle.model_eval.specs.Keeping.{Loan}
-use Rattle.model_eval.specs.Children.{is_reached, loan_values}
+use Rattle.model_eval.specs.Lending.{is_reached, loan_values}
 use Rattle.model_accepted.proofs.KidLemmas.{AreLoans, AreBound, AreBindings, bindings_are}
 use Rattle.model_in_place.proofs.KidMeeting.{loan_is}
 use Rattle.model_follows.specs.Costs.{Counted}
@@ -62,10 +62,10 @@ module _ (w : World) (base : Ground) (threaded : IsThreaded w) (followed : Lawfu
   are_plain c p (x ∷ xs) (more g fs) bs seen bind a =
       let is : AreBindings c x xs g fs bs = bindings_are c x xs g fs bs bind in
       let all : AreBound c p (is.first ∷ is.others) = subst (AreBound c p) is.all a in
-      let plain : (base.view is.first.accessor.object ≡ None) × (base.view (child_object is.first.accessor.holds) ≡ None) = seen.plain is.is.by.accessor is.first.accessor is.is.found in
+      let plain : (base.view is.first.accessor.stobj ≡ None) × (base.view (child_stobj is.first.accessor.holds) ≡ None) = seen.plain is.is.by.accessor is.first.accessor is.is.found in
       subst (ArePlain p) (sym is.all) (
-        sym (seen.alike is.first.accessor.object p all.1) ∙ plain.0,
-        sym (seen.alike (child_object is.first.accessor.holds) is.first.name all.2) ∙ plain.1,
+        sym (seen.alike is.first.accessor.stobj p all.1) ∙ plain.0,
+        sym (seen.alike (child_stobj is.first.accessor.holds) is.first.name all.2) ∙ plain.1,
         are_plain c p xs fs is.others seen is.later all.3,
       )
 
@@ -92,7 +92,7 @@ module _ (w : World) (base : Ground) (threaded : IsThreaded w) (followed : Lawfu
     where
       ordinary : (v : Shown ℕ) → IsOfKind x Ordinary v → value_in values x ≡ held s.symbols stage.lists v → value_in values x ≡ named (symbol_at s.symbols) (leaf_object rules (Some v))
       ordinary (Plain o) i g = g
-      ordinary (Stobj y) i g = absurd i
+      ordinary (StobjNamed y) i g = absurd i
 
       go : (k : Option Out) → kind_in scope x ≡ k → option_map_or (same_kind Ordinary) k false ≡ true → Some (value_in values x) ≡ Some (named (symbol_at s.symbols) (leaf_object rules (Some (variable_in by_number variables x))))
       go None i g = false_true g
@@ -112,8 +112,8 @@ module _ (w : World) (base : Ground) (threaded : IsThreaded w) (followed : Lawfu
   index_same scope vars variables s t values (Some (MustBeEqual a b)) stage e = false_true e
   index_same scope vars variables s t values (Some (Call g actuals)) stage e = false_true e
 
-  module _ (c : World) (mode : Mode) (scope : Scope) (suited_world : Suited w base c) (n : mode ≢ Logic) (variables : Variables ℕ) (values : Values) (are : AreVariables scope variables) (whole : Counted) (vars : List ℕ) (p : ℕ) (parent : StobjList ℕ) (object : IsStobj scope p)
-      (shown : variable_in by_number variables p ≡ Stobj p) (sy : List QualifiedName) (os : Stobjs ℕ) where
+  module _ (c : World) (mode : Mode) (scope : Scope) (suited_world : Suited w base c) (n : mode ≢ Logic) (variables : Variables ℕ) (values : Values) (are : AreVariables scope variables) (whole : Counted) (vars : List ℕ) (p : ℕ) (parent : StobjList ℕ) (stobj : IsStobj scope p)
+      (shown : variable_in by_number variables p ≡ StobjNamed p) (sy : List QualifiedName) (os : Stobjs ℕ) where
     pub follows_borrowed : (ns : List ℕ) (forms : Cores) (bs : List BoundChild) (done : List (Loan ℕ)) (go : List (Loan ℕ) → State ℕ → Outcome ℕ) (s : State ℕ) (t : StateOf (Store ℕ))
         → bound_children c ns forms ≡ Some bs → AreBound c p bs → have_indices scope vars bs ≡ true → list_of s.stobjs p ≡ parent → s.symbols ≡ sy → s.stobjs ≡ os → Stage w base scope variables s t values
         → ((ls all : List (Loan ℕ)) (u : State ℕ) (v : StateOf (Store ℕ)) → AreLoans w p parent bs ls → all ≡ done ++ ls → logic_loans thy ns forms values ≡ map (named_loan (symbol_at sy)) ls → u.symbols ≡ sy → u.stobjs ≡ os
@@ -133,7 +133,7 @@ module _ (w : World) (base : Ground) (threaded : IsThreaded w) (followed : Lawfu
         let ixs : (option_map_or (is_index scope vars) is.first.index true ≡ true) × (have_indices scope vars is.others ≡ true)
         = both_true (option_map_or (is_index scope vars) is.first.index true) (have_indices scope vars is.others) (subst (λ (m : List BoundChild). have_indices scope vars m ≡ true) is.all ix) in
         let l : Loan ℕ = loan_of rules x p is.is.by variables in
-        let from : variable_in by_number variables is.is.by.parent ≡ Stobj p = ap (variable_in by_number variables) (sym is.is.parent ∙ all.0) ∙ shown in
+        let from : variable_in by_number variables is.is.by.parent ≡ StobjNamed p = ap (variable_in by_number variables) (sym is.is.parent ∙ all.0) ∙ shown in
         subst (λ (r : Option Reached). IfGives (Mine w base scope s whole) (borrowed rules x r variables (λ loan after. all_borrowed rules xs fs variables (done ++ loan ∷ []) go after) s)) (sym is.is.called)
         (subst (λ (q : Shown ℕ). IfGives (Mine w base scope s whole) (borrowed_from rules x is.is.by q variables (λ loan after. all_borrowed rules xs fs variables (done ++ loan ∷ []) go after) s)) (sym from)
         (gives_counting (Mine w base scope s whole) limit s (borrowing rules is.is.by.accessor l (λ after. all_borrowed rules xs fs variables (done ++ l ∷ []) go after))
@@ -145,7 +145,7 @@ module _ (w : World) (base : Ground) (threaded : IsThreaded w) (followed : Lawfu
         (λ ls every u v loans q ll us uo st.
         k (l ∷ ls) every u v
         (subst (λ (m : List BoundChild). AreLoans w p parent m (l ∷ ls)) (sym is.all) (
-          loan_is w threaded base.table.packages limit ev el h c mode scope suited_world.suits n variables are p parent object shown x g is.first is.is all.0 (suited_world.suits.layouts is.first.accessor.object p all.1) (suited_world.suits.layouts (child_object is.first.accessor.holds) is.first.name all.2)
+          loan_is w threaded base.table.packages limit ev el h c mode scope suited_world.suits n variables are p parent stobj shown x g is.first is.is all.0 (suited_world.suits.layouts is.first.accessor.stobj p all.1) (suited_world.suits.layouts (child_stobj is.first.accessor.holds) is.first.name all.2)
               (ap (λ (m : StobjList ℕ). is_reached l.index (item l.field m)) (sym same) ∙ r),
           loans,
         ))

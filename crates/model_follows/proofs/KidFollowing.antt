@@ -14,19 +14,19 @@ use Rattle.model_terms.specs.declared.rule.Mode.TheVariants.{Logic}
 use Rattle.model_terms.specs.Cores.{Core, Cores, StobjLet}
 use Rattle.model_terms.specs.Worlds.{World, Definition, GeneratedFunction, Generated, definition, Out, Ordinary, Scope}
 use Rattle.model_terms.specs.Worlds as worlds
-use Rattle.model_terms.specs.Classes.{has, is_object_name}
+use Rattle.model_terms.specs.Classes.{has, is_stobj_name}
 use Rattle.model_terms.specs.Scopes.{kind_in, name_kind, name_kinds, without, ordinary_names, producer_scope, consumer_scope}
 use Rattle.model_terms.specs.Sites.{here, parent_in}
-use Rattle.model_eval.specs.Outcomes.{Shown, Plain, Stobj, Stobjs, StateOf, State, Outcome, Gives, Stops, Unknown, then_with, counting, one_more_call, stops_here, Guard}
+use Rattle.model_eval.specs.Outcomes.{Shown, Plain, StobjNamed, Stobjs, StateOf, State, Outcome, Gives, Stops, Unknown, then_with, counting, one_more_call, stops_here, Guard}
 use Rattle.model_eval.specs.PlacesKeeping.{Store}
 use Rattle.model_eval.specs.ListsKeeping.{lists_keeping, all_put}
-use Rattle.model_eval.specs.Scopes.{Variables, variable_in, bound, list_of}
+use Rattle.model_eval.specs.Variables.{Variables, variable_in, bound, list_of}
 use Rattle.model_eval.specs.Evaluated.{Rules, Evaluator, EvaluatorOf, all_borrowed, put_back, lending, loaned_variables, producing, with_loans, stobj_let_word}
 use Rattle.model_logic.specs.Logic.{Theory, Thing, Values, value_in, bind, then_found, form_value, parts_for, spending, with_children, put_loans, with_parent, logic_loans}
 use Rattle.model_eval_laws.specs.Scope.{names, is_among}
 use Rattle.model_eval_laws.proofs.Lists.{same_number, list_widened}
 use Rattle.model_accepted.specs.Threaded.{layout_of, IsFormed, IsThreaded}
-use Rattle.model_accepted.specs.Scopes.{IsStobj, IsOfKind, AreVariables, AreOutputs}
+use Rattle.model_accepted.specs.StobjScopes.{IsStobj, IsOfKind, AreVariables, AreOutputs}
 use Rattle.model_in_place.specs.Writes.{Write, stobjs_after, Moves, writes_beside}
 use Rattle.model_accepted.specs.Accepted.{Accepted}
 use Rattle.model_accepted.proofs.AcceptLemmas.{not_false, false_true, true_false, of_stobj_let, s13, both_true}
@@ -41,7 +41,7 @@ use Rattle.model_prims.proofs.ByName.{IsNaming}
 use Rattle.model_objects.specs.Object.{named}
 use Rattle.model_terms.specs.Nested.{stobj_let_holds}
 use Rattle.model_eval.specs.Keeping.{Loan, taken_back}
-use Rattle.model_eval.specs.Children.{are_twins, indices, lent, put_into_parent}
+use Rattle.model_eval.specs.Lending.{are_twins, indices, lent, put_into_parent}
 use Rattle.model_accepted.specs.Loans.{children, merged, raised, loans_among, AreLent, IsInside}
 use Rattle.model_in_place.proofs.LoanLemmas.{names_lent, list_beside, put_merged, within_itself}
 use Rattle.model_in_place.proofs.RaiseLemmas.{objects_split, stands_lent}
@@ -52,7 +52,7 @@ use Rattle.model_in_place.proofs.KidMeeting.{parent_is}
 use Rattle.model_symbols.specs.Tables.{IsTable}
 use Rattle.model_prims.specs.Laws.{NamesTruth}
 use Rattle.model_follows.specs.Costs.{Counted, form_counted, Ends}
-use Rattle.model_follows.specs.Worlds.{KnowsList, IsSuited}
+use Rattle.model_follows.specs.FollowedWorlds.{KnowsList, IsSuited}
 use Rattle.model_follows.proofs.HeldThings.{Ground, Held, held, all_held, Kin, AreKin, itself, AreHeld, kin_plain, plain_kin, kin_same}
 use Rattle.model_follows.specs.Follows.{thing_of_list, one_thing, KnowsShown, table_of, IsSound, IfGives}
 use Rattle.model_follows.proofs.KidThings.{named_loan, Good, EachLoan, each_loan, each_among, kid_good, kid_other, put_named, raised_good, raised_other}
@@ -97,7 +97,7 @@ module _ (w : World) (base : Ground) (threaded : IsThreaded w) (followed : Lawfu
   -- ---- children lent, and the producer
 
   module _ (c : World) (mode : Mode) (scope : Scope) (ns : List ℕ) (forms : Cores) (vars : List ℕ) (producer consumer : Core) (expected : List Out) (variables : Variables ℕ) (s : State ℕ) (t : StateOf (Store ℕ)) (values : Values)
-      (suited_world : Suited w base c) (n : mode ≢ Logic) (holds : StobjLetHolds c scope expected ns forms vars) (object : IsStobj scope holds.parent) (plain_p : base.view holds.parent ≡ None)
+      (suited_world : Suited w base c) (n : mode ≢ Logic) (holds : StobjLetHolds c scope expected ns forms vars) (stobj : IsStobj scope holds.parent) (plain_p : base.view holds.parent ≡ None)
       (first : Accepted c mode (producer_scope c scope (Some holds.parent) ns) producer None (name_kinds c vars)) (second : Accepted c mode (consumer_scope c scope ns vars) consumer None expected)
       (formed_producer : IsFormed c producer) (formed_consumer : IsFormed c consumer) (suited_producer : IsSuited w (length base.table.symbols) producer) (suited_consumer : IsSuited w (length base.table.symbols) consumer)
       (stage : Stage w base scope variables s t values) (ls : List (Loan ℕ)) (loans : AreLoans w holds.parent (list_of s.stobjs holds.parent) holds.bs ls)
@@ -121,16 +121,16 @@ module _ (w : World) (base : Ground) (threaded : IsThreaded w) (followed : Lawfu
     parent = list_of s.stobjs p
 
     same_names : children ls ≡ ns
-    same_names = loan_names w p parent (stage.stands.fits p object) holds.bs ls loans ∙ names_bound c ns forms holds.bs holds.bound
+    same_names = loan_names w p parent (stage.stands.fits p stobj) holds.bs ls loans ∙ names_bound c ns forms holds.bs holds.bound
 
     lends : AreLent w p parent ls
-    lends = are_lent w p parent (stage.stands.fits p object) holds.bs ls loans holds.distinct holds.twice twins
+    lends = are_lent w p parent (stage.stands.fits p stobj) holds.bs ls loans holds.distinct holds.twice twins
 
-    object_names : (x : ℕ) → has ns x ≡ true → is_object_name c x ≡ true
-    object_names x i = bound_names c p holds.bs x holds.all (ap (λ (xs : List ℕ). has xs x) (names_bound c ns forms holds.bs holds.bound) ∙ i)
+    stobj_names : (x : ℕ) → has ns x ≡ true → is_stobj_name c x ≡ true
+    stobj_names x i = bound_names c p holds.bs x holds.all (ap (λ (xs : List ℕ). has xs x) (names_bound c ns forms holds.bs holds.bound) ∙ i)
 
-    shown_parent : variable_in by_number variables p ≡ Stobj p
-    shown_parent = (stage.are.each p (worlds.Stobj p) object).1
+    shown_parent : variable_in by_number variables p ≡ StobjNamed p
+    shown_parent = (stage.are.each p (worlds.Stobj p) stobj).1
 
     old : Table
     old = table_of base.table.packages s.symbols
@@ -146,20 +146,20 @@ module _ (w : World) (base : Ground) (threaded : IsThreaded w) (followed : Lawfu
 
     value_parent : value_in values p ≡ thing_of_list s.symbols parent
     value_parent =
-        stage.named.same p (worlds.Stobj p) object ∙ (ap (held s.symbols stage.lists) shown_parent ∙ plain_kin w base s.symbols p parent (stage.lists p) plain_p (stage.kin.each p object))
+        stage.named.same p (worlds.Stobj p) stobj ∙ (ap (held s.symbols stage.lists) shown_parent ∙ plain_kin w base s.symbols p parent (stage.lists p) plain_p (stage.kin.each p stobj))
 
     plain_kid : (x : ℕ) → has (children ls) x ≡ true → base.view x ≡ None
     plain_kid x i =
-        plain_child w base threaded followed limit symbols bg ev el h f p holds.bs x (are_plain w base threaded followed limit symbols bg ev el h f c p ns forms holds.bs suited_world.seen holds.bound holds.all) (ap (λ (xs : List ℕ). has xs x) (sym (loan_names w p parent (stage.stands.fits p object) holds.bs ls loans)) ∙ i)
+        plain_child w base threaded followed limit symbols bg ev el h f p holds.bs x (are_plain w base threaded followed limit symbols bg ev el h f c p ns forms holds.bs suited_world.seen holds.bound holds.all) (ap (λ (xs : List ℕ). has xs x) (sym (loan_names w p parent (stage.stands.fits p stobj) holds.bs ls loans)) ∙ i)
 
-    each : EachLoan w p parent (symbol_at s.symbols) (λ q. q < length s.symbols) (naming_at s.symbols stage.sound.table stage.sound.truth) (stage.stands.fits p object) (stage.sound.recognized p object) (stage.sound.known p object) ls
-    each = each_loan w p parent (symbol_at s.symbols) (λ q. q < length s.symbols) (naming_at s.symbols stage.sound.table stage.sound.truth) (stage.stands.fits p object) (stage.sound.recognized p object) (stage.sound.known p object) holds.bs ls loans
+    each : EachLoan w p parent (symbol_at s.symbols) (λ q. q < length s.symbols) (naming_at s.symbols stage.sound.table stage.sound.truth) (stage.stands.fits p stobj) (stage.sound.recognized p stobj) (stage.sound.known p stobj) ls
+    each = each_loan w p parent (symbol_at s.symbols) (λ q. q < length s.symbols) (naming_at s.symbols stage.sound.table stage.sound.truth) (stage.stands.fits p stobj) (stage.sound.recognized p stobj) (stage.sound.known p stobj) holds.bs ls loans
 
     kid : (x : ℕ) → has (children ls) x ≡ true
-        → Good w p parent (symbol_at s.symbols) (λ q. q < length s.symbols) (naming_at s.symbols stage.sound.table stage.sound.truth) (stage.stands.fits p object) (stage.sound.recognized p object) (stage.sound.known p object) x (list_of lent_lists x)
+        → Good w p parent (symbol_at s.symbols) (λ q. q < length s.symbols) (naming_at s.symbols stage.sound.table stage.sound.truth) (stage.stands.fits p stobj) (stage.sound.recognized p stobj) (stage.sound.known p stobj) x (list_of lent_lists x)
         × (value_in logic_values x ≡ thing_of_list s.symbols (list_of lent_lists x))
     kid x i =
-        kid_good w p parent (symbol_at s.symbols) (λ q. q < length s.symbols) (naming_at s.symbols stage.sound.table stage.sound.truth) (stage.stands.fits p object) (stage.sound.recognized p object) (stage.sound.known p object)
+        kid_good w p parent (symbol_at s.symbols) (λ q. q < length s.symbols) (naming_at s.symbols stage.sound.table stage.sound.truth) (stage.stands.fits p stobj) (stage.sound.recognized p stobj) (stage.sound.known p stobj)
         ls s.stobjs s.stobjs values x each refl value_parent i
 
     beside_list : (x : ℕ) → has (children ls) x ≡ false → list_of lent_lists x ≡ list_of s.stobjs x
@@ -214,28 +214,28 @@ module _ (w : World) (base : Ground) (threaded : IsThreaded w) (followed : Lawfu
 
         passed : (x : ℕ) (k : Out) (v : Shown ℕ) → has (children ls) x ≡ false → IsOfKind x k v → held s.symbols stage.lists v ≡ held s.symbols inner_lists v
         passed x k (Plain o) e i = refl
-        passed x Ordinary (Stobj y) e i = absurd i
-        passed x (worlds.Stobj z) (Stobj y) e i = sym (ap (λ (b : Bool). if b then thing_of_list s.symbols (list_of lent_lists y) else stage.lists y) (ap (has (children ls)) (same i.1) ∙ e))
+        passed x Ordinary (StobjNamed y) e i = absurd i
+        passed x (worlds.Stobj z) (StobjNamed y) e i = sym (ap (λ (b : Bool). if b then thing_of_list s.symbols (list_of lent_lists y) else stage.lists y) (ap (has (children ls)) (same i.1) ∙ e))
           where
-            same : ◌≡◌ {A = Shown ℕ} (Stobj y) (Stobj x) → y ≡ x
+            same : ◌≡◌ {A = Shown ℕ} (StobjNamed y) (StobjNamed x) → y ≡ x
             same g = cc
 
         same_by : (x : ℕ) (k : Out) → kind_in inside x ≡ Some k → (b : Bool) → has (children ls) x ≡ b → value_in logic_values x ≡ held s.symbols inner_lists (variable_in by_number loaned x)
         same_by x k i true e = (kid x e).1 ∙ (sym (ap (λ (b : Bool). if b then thing_of_list s.symbols (list_of lent_lists x) else stage.lists x) e) ∙ sym (ap (held s.symbols inner_lists) (loaned_kid ls variables x e)))
         same_by x k i false e =
-            kid_other w p parent (symbol_at s.symbols) (λ q. q < length s.symbols) (naming_at s.symbols stage.sound.table stage.sound.truth) (stage.stands.fits p object) (stage.sound.recognized p object) (stage.sound.known p object) ls values x e
+            kid_other w p parent (symbol_at s.symbols) (λ q. q < length s.symbols) (naming_at s.symbols stage.sound.table stage.sound.truth) (stage.stands.fits p stobj) (stage.sound.recognized p stobj) (stage.sound.known p stobj) ls values x e
             ∙ (stage.named.same x k (was_around x k i e) ∙ (passed x k (variable_in by_number variables x) e (stage.are.each x k (was_around x k i e)) ∙ sym (ap (held s.symbols inner_lists) (loaned_other ls variables x e))))
 
     abbrev start_s : State ℕ
-    start_s = lent_s w threaded base.table.packages limit scope p object s t stage.stands ls lends
+    start_s = lent_s w threaded base.table.packages limit scope p stobj s t stage.stands ls lends
 
     abbrev start_t : StateOf (Store ℕ)
-    start_t = lent_t w threaded base.table.packages limit scope p object s t stage.stands ls lends
+    start_t = lent_t w threaded base.table.packages limit scope p stobj s t stage.stands ls lends
 
     inside_stage : Stage w base inside loaned start_s start_t logic_values
     inside_stage = record {
-      are = producer_variables c scope p ns ls same_names variables object_names stage.are;
-      stands = stands_lent w scope inside p object s.stobjs t.stobjs ls stage.stands lends (producer_objects c scope p ns ls same_names);
+      are = producer_variables c scope p ns ls same_names variables stobj_names stage.are;
+      stands = stands_lent w scope inside p stobj s.stobjs t.stobjs ls stage.stands lends (producer_objects c scope p ns ls same_names);
       same = record { symbols = stage.same.symbols; calls = stage.same.calls; outer = stage.same.outer };
       sound = inside_sound;
       lists = inner_lists;
@@ -252,7 +252,7 @@ module _ (w : World) (base : Ground) (threaded : IsThreaded w) (followed : Lawfu
 
     child_now : (x : ℕ) → May inside kinds x → (has vars x ≡ true) × (has (children ls) x ≡ true)
     child_now x i =
-        let named : (has vars x ≡ true) × (is_object_name c x ≡ true) = both_true (has vars x) (is_object_name c x) (sym (has_object c vars x) ∙ i.0) in
+        let named : (has vars x ≡ true) × (is_stobj_name c x ≡ true) = both_true (has vars x) (is_stobj_name c x) (sym (has_object c vars x) ∙ i.0) in
         (named.0, ap (λ (xs : List ℕ). has xs x) same_names ∙ holds.children_only x named.0 named.1)
 
     -- what is known after the children are back
@@ -274,9 +274,9 @@ module _ (w : World) (base : Ground) (threaded : IsThreaded w) (followed : Lawfu
         (λ vs q. (u : State ℕ) × Did w base inside kinds start_s start_t logic vs u × (q.stobjs ≡ drop (length ls) (all_put (loans_among vars ls) u.stobjs)) × (q.symbols ≡ u.symbols))
         (producing rules ev vars producer variables ls s)
         (gives_moves w (AreOutputs inside kinds) (May scope expected) (IsStobj scope) s t (producing rules ev vars producer variables ls s) (producing (at_places w threaded base.table.packages limit) el vars producer variables ls t)
-        (meets_given_back w threaded base.table.packages limit scope p object s t stage.stands ls lends (AreOutputs inside kinds) (May inside kinds) (IsStobj inside) (May scope expected) vars
+        (meets_given_back w threaded base.table.packages limit scope p stobj s t stage.stands ls lends (AreOutputs inside kinds) (May inside kinds) (IsStobj inside) (May scope expected) vars
         (λ x i. let now : (has vars x ≡ true) × (has (children ls) x ≡ true) = child_now x i in
-        (now.0, now.1, (holds.parent_out x now.0 (ap (λ (xs : List ℕ). has xs x) (sym same_names) ∙ now.1), object)))
+        (now.0, now.1, (holds.parent_out x now.0 (ap (λ (xs : List ℕ). has xs x) (sym same_names) ∙ now.1), stobj)))
         (producer_objects c scope p ns ls same_names)
         (ev producer loaned (lending rules ls s)) (el producer (loaned_variables (at_places w threaded base.table.packages limit) ls variables) (lending (at_places w threaded base.table.packages limit) ls t))
         (h.meets c mode inside producer None kinds suited_world.suits n first formed_producer loaned start_s start_t inside_stage.are inside_stage.stands inside_stage.same)))
@@ -326,7 +326,7 @@ module _ (w : World) (base : Ground) (threaded : IsThreaded w) (followed : Lawfu
       u_is = bk.done.moves.stobjs ∙ objects_split (children ls) writes (lent ls s.stobjs) s.stobjs (names_lent ls s.stobjs)
 
       parent_there : is_among p (names others) ≡ true
-      parent_there = ap (is_among p) (names_after (writes_beside (children ls) writes) s.stobjs) ∙ stage.stands.known p object
+      parent_there = ap (is_among p) (names_after (writes_beside (children ls) writes) s.stobjs) ∙ stage.stands.known p stobj
 
       q_is : q.stobjs ≡ after
       q_is =
@@ -336,7 +336,7 @@ module _ (w : World) (base : Ground) (threaded : IsThreaded w) (followed : Lawfu
           ∙ put_merged p lsv kids others (parents_among p vars ls lends.parents) (kids_are kids lsv ls kid_names (within_among vars ls ls (within_itself ls lends.once))) (ap (is_among p) kid_names ∙ lends.beside) parent_there)
           ∙ dropped (length ls) kids after (length_kids kids ls kid_names))
 
-      -- no object but children was written
+      -- no stobj but children was written
       others_same : (x : ℕ) → list_of others x ≡ list_of s.stobjs x
       others_same x =
           unwritten w (λ y. (has (children ls) y ≡ false) × May inside kinds y) (writes_beside (children ls) writes) s.stobjs x
@@ -354,16 +354,16 @@ module _ (w : World) (base : Ground) (threaded : IsThreaded w) (followed : Lawfu
       naming = naming_at u.symbols bk.done.mine.sound.table bk.done.mine.sound.truth
 
       parent_known : KnowsList (length u.symbols) parent
-      parent_known = knows_list_stays (table_of base.table.packages s.symbols) (table_of base.table.packages u.symbols) grown parent (stage.sound.known p object)
+      parent_known = knows_list_stays (table_of base.table.packages s.symbols) (table_of base.table.packages u.symbols) grown parent (stage.sound.known p stobj)
 
       abbrev IsGood : ℕ → StobjList ℕ → Type 0
-      IsGood x l = Good w p parent (symbol_at u.symbols) (λ z. z < length u.symbols) naming (stage.stands.fits p object) (stage.sound.recognized p object) parent_known x l
+      IsGood x l = Good w p parent (symbol_at u.symbols) (λ z. z < length u.symbols) naming (stage.stands.fits p stobj) (stage.sound.recognized p stobj) parent_known x l
 
       inside_child : (x : ℕ) → has (children ls) x ≡ true → IsStobj inside x
       inside_child x i =
           let there : has ns x ≡ true = ap (λ (xs : List ℕ). has xs x) (sym same_names) ∙ i in
           kind_bound c (without (p ∷ []) scope) ns x
-          ∙ (ap (λ (b : Bool). if b then Some (name_kind c x) else kind_in (without (p ∷ []) scope) x) there ∙ ap (λ (k : Out). Some k) (name_is_object c x (object_names x there)))
+          ∙ (ap (λ (b : Bool). if b then Some (name_kind c x) else kind_in (without (p ∷ []) scope) x) there ∙ ap (λ (k : Out). Some k) (name_is_object c x (stobj_names x there)))
 
       kid_list : (x : ℕ) → has (children ls) x ≡ true → list_of u.stobjs x ≡ list_of kids x
       kid_list x i = ap (λ (o : Stobjs ℕ). list_of o x) u_is ∙ list_widened kids others x (ap (is_among x) kid_names ∙ i)
@@ -399,25 +399,25 @@ module _ (w : World) (base : Ground) (threaded : IsThreaded w) (followed : Lawfu
 
       kid_value : (x : ℕ) → has vars x ≡ true → has (children ls) x ≡ true → value_in bindings x ≡ thing_of_list u.symbols (list_of kids x)
       kid_value x i j =
-          let stobjs : is_object_name c x ≡ true = object_names x (ap (λ (xs : List ℕ). has xs x) (sym same_names) ∙ j) in
+          let stobjs : is_stobj_name c x ≡ true = stobj_names x (ap (λ (xs : List ℕ). has xs x) (sym same_names) ∙ j) in
           bound_thing c inside u.symbols last_lists loaned [] vars vs bk.done.outputs x (λ e. true_false (sym i ∙ e)) (λ e o. loaned_kid ls variables x j)
           ∙ (ap (held u.symbols last_lists) (bound_skips c inside vars vs loaned x bk.done.outputs (ordinary_not c vars x stobjs) ∙ loaned_kid ls variables x j)
           ∙ (plain_kin w base u.symbols x (list_of u.stobjs x) (last_lists x) (plain_kid x j) (last_kin.each x (inside_child x j)) ∙ ap (thing_of_list u.symbols) (kid_list x j)))
 
-      each_after : EachLoan w p parent (symbol_at u.symbols) (λ z. z < length u.symbols) naming (stage.stands.fits p object) (stage.sound.recognized p object) parent_known lsv
+      each_after : EachLoan w p parent (symbol_at u.symbols) (λ z. z < length u.symbols) naming (stage.stands.fits p stobj) (stage.sound.recognized p stobj) parent_known lsv
       each_after =
-          each_among w p parent (symbol_at u.symbols) (λ z. z < length u.symbols) naming (stage.stands.fits p object) (stage.sound.recognized p object) parent_known vars ls
-          (each_loan w p parent (symbol_at u.symbols) (λ z. z < length u.symbols) naming (stage.stands.fits p object) (stage.sound.recognized p object) parent_known holds.bs ls loans)
+          each_among w p parent (symbol_at u.symbols) (λ z. z < length u.symbols) naming (stage.stands.fits p stobj) (stage.sound.recognized p stobj) parent_known vars ls
+          (each_loan w p parent (symbol_at u.symbols) (λ z. z < length u.symbols) naming (stage.stands.fits p stobj) (stage.sound.recognized p stobj) parent_known holds.bs ls loans)
 
       abbrev rest : Values
       rest = with_parent (map (named_loan (symbol_at u.symbols)) lsv) bindings values
 
       parent_good_after : IsGood p (merged lsv kids parent) × (value_in rest p ≡ thing_of_list u.symbols (merged lsv kids parent))
       parent_good_after =
-          raised_good w p parent (symbol_at u.symbols) (λ z. z < length u.symbols) naming (stage.stands.fits p object) (stage.sound.recognized p object) parent_known lsv kids bindings values parent each_after
+          raised_good w p parent (symbol_at u.symbols) (λ z. z < length u.symbols) naming (stage.stands.fits p stobj) (stage.sound.recognized p stobj) parent_known lsv kids bindings values parent each_after
           (λ x i. let both : (has vars x ≡ true) × (has (children ls) x ≡ true) = among_has vars ls x i in (kid_is_good x both.1, kid_value x both.0 both.1))
-          (record { fits = stage.stands.fits p object; recognized = stage.sound.recognized p object; known = parent_known })
-          (value_parent ∙ sym (list_stays (table_of base.table.packages s.symbols) (table_of base.table.packages u.symbols) grown parent nils (stage.sound.known p object)))
+          (record { fits = stage.stands.fits p stobj; recognized = stage.sound.recognized p stobj; known = parent_known })
+          (value_parent ∙ sym (list_stays (table_of base.table.packages s.symbols) (table_of base.table.packages u.symbols) grown parent nils (stage.sound.known p stobj)))
 
       parent_is_merged : list_of after p ≡ merged lsv kids parent
       parent_is_merged = parent_after ∙ ap (merged lsv kids) (others_same p)
@@ -459,7 +459,7 @@ module _ (w : World) (base : Ground) (threaded : IsThreaded w) (followed : Lawfu
       outer_are = consumer_variables c scope p ns ls same_names inside vars vs variables bk.done.outputs stage.are
 
       -- a name in the consumer's scope that is a variable is ordinary, and another was in scope
-      by_variable : (x : ℕ) (k : Out) → kind_in outer x ≡ Some k → ((has vars x ≡ true) × (is_object_name c x ≡ false)) ⊎ ((has vars x ≡ false) × (kind_in scope x ≡ Some k))
+      by_variable : (x : ℕ) (k : Out) → kind_in outer x ≡ Some k → ((has vars x ≡ true) × (is_stobj_name c x ≡ false)) ⊎ ((has vars x ≡ false) × (kind_in scope x ≡ Some k))
       by_variable x k i = go (has (ordinary_names c vars) x) refl (sym (kind_bound c (without ns scope) (ordinary_names c vars) x) ∙ i)
         where
           ordinary_one : (a b : Bool) → (a && not b) ≡ true → (a ≡ true) × (b ≡ false)
@@ -471,22 +471,22 @@ module _ (w : World) (base : Ground) (threaded : IsThreaded w) (followed : Lawfu
           outside_one true e = none_some e
           outside_one false e = (refl, e)
 
-          no_variable : (a : Bool) → has vars x ≡ a → (b : Bool) → is_object_name c x ≡ b → (a && not b) ≡ false → has ns x ≡ false → kind_in scope x ≡ Some k → ((has vars x ≡ true) × (is_object_name c x ≡ false)) ⊎ ((has vars x ≡ false) × (kind_in scope x ≡ Some k))
+          no_variable : (a : Bool) → has vars x ≡ a → (b : Bool) → is_stobj_name c x ≡ b → (a && not b) ≡ false → has ns x ≡ false → kind_in scope x ≡ Some k → ((has vars x ≡ true) × (is_stobj_name c x ≡ false)) ⊎ ((has vars x ≡ false) × (kind_in scope x ≡ Some k))
           no_variable true e true g m d j = true_false (sym (holds.children_only x e g) ∙ d)
           no_variable true e false g m d j = true_false m
           no_variable false e b g m d j = inr (e, j)
 
           go : (b : Bool) → has (ordinary_names c vars) x ≡ b → (if b then Some (name_kind c x) else kind_in (without ns scope) x) ≡ Some k
-              → ((has vars x ≡ true) × (is_object_name c x ≡ false)) ⊎ ((has vars x ≡ false) × (kind_in scope x ≡ Some k))
-          go true e j = inl (ordinary_one (has vars x) (is_object_name c x) (sym (has_ordinary c vars x) ∙ e))
+              → ((has vars x ≡ true) × (is_stobj_name c x ≡ false)) ⊎ ((has vars x ≡ false) × (kind_in scope x ≡ Some k))
+          go true e j = inl (ordinary_one (has vars x) (is_stobj_name c x) (sym (has_ordinary c vars x) ∙ e))
           go false e j =
               let out : (has ns x ≡ false) × (kind_in scope x ≡ Some k) = outside_one (has ns x) (sym (kind_without ns scope x) ∙ j) in
-              no_variable (has vars x) refl (is_object_name c x) refl (sym (has_ordinary c vars x) ∙ e) out.0 out.1
+              no_variable (has vars x) refl (is_stobj_name c x) refl (sym (has_ordinary c vars x) ∙ e) out.0 out.1
 
       outer_named : AreHeld outer (bound vars vs variables) u.symbols lists_q (bindings ++ rest)
       outer_named = record { known = λ x k i. known_by x k (by_variable x k i); same = λ x k i. ap (λ (m : Values). value_in m x) (bound_before vars things rest) ∙ same_by x k i (by_variable x k i) }
         where
-          known_by : (x : ℕ) (k : Out) → ((has vars x ≡ true) × (is_object_name c x ≡ false)) ⊎ ((has vars x ≡ false) × (kind_in scope x ≡ Some k)) → KnowsShown (length u.symbols) (variable_in by_number (bound vars vs variables) x)
+          known_by : (x : ℕ) (k : Out) → ((has vars x ≡ true) × (is_stobj_name c x ≡ false)) ⊎ ((has vars x ≡ false) × (kind_in scope x ≡ Some k)) → KnowsShown (length u.symbols) (variable_in by_number (bound vars vs variables) x)
           known_by x k (inl e) =
               bound_known_here c inside u.symbols last_lists variables values (length u.symbols) vars vs bk.done.outputs bk.done.mine.known x e.0 (λ o. true_false (sym o ∙ e.1))
           known_by x k (inr e) =
@@ -495,10 +495,10 @@ module _ (w : World) (base : Ground) (threaded : IsThreaded w) (followed : Lawfu
 
           plain : (x : ℕ) (v : Shown ℕ) → IsOfKind x Ordinary v → held u.symbols last_lists v ≡ held u.symbols lists_q v
           plain x (Plain o) i = refl
-          plain x (Stobj y) i = absurd i
+          plain x (StobjNamed y) i = absurd i
 
           none_bound : (x : ℕ) → has vars x ≡ false → has (ordinary_names c vars) x ≡ false
-          none_bound x e = has_ordinary c vars x ∙ ap (λ (b : Bool). b && not (is_object_name c x)) e
+          none_bound x e = has_ordinary c vars x ∙ ap (λ (b : Bool). b && not (is_stobj_name c x)) e
 
           around : (x : ℕ) (k : Out) → kind_in scope x ≡ Some k → (x ≡ p) ⊎ (x ≢ p) → value_in rest x ≡ held u.symbols lists_q (variable_in by_number variables x)
           around x k i (inl e) =
@@ -506,11 +506,11 @@ module _ (w : World) (base : Ground) (threaded : IsThreaded w) (followed : Lawfu
               (parent_good_after.1 ∙ (ap (thing_of_list u.symbols) (sym parent_is_merged)
               ∙ (sym (ap (λ (b : Bool). if b then thing_of_list u.symbols (list_of after p) else stage.lists p) (same_number p)) ∙ sym (ap (held u.symbols lists_q) shown_parent))))
           around x k i (inr e) =
-              raised_other w p parent (symbol_at u.symbols) (λ z. z < length u.symbols) naming (stage.stands.fits p object) (stage.sound.recognized p object) parent_known lsv bindings values x each_after e
+              raised_other w p parent (symbol_at u.symbols) (λ z. z < length u.symbols) naming (stage.stands.fits p stobj) (stage.sound.recognized p stobj) parent_known lsv bindings values x each_after e
               ∙ named_one (table_of base.table.packages s.symbols) (table_of base.table.packages u.symbols) grown scope variables values stage.lists lists_q stage.are stage.named x k i
               (λ o. ap (λ (b : Bool). if b then thing_of_list u.symbols (list_of after p) else stage.lists x) (not_equal x p e))
 
-          same_by : (x : ℕ) (k : Out) → kind_in outer x ≡ Some k → ((has vars x ≡ true) × (is_object_name c x ≡ false)) ⊎ ((has vars x ≡ false) × (kind_in scope x ≡ Some k))
+          same_by : (x : ℕ) (k : Out) → kind_in outer x ≡ Some k → ((has vars x ≡ true) × (is_stobj_name c x ≡ false)) ⊎ ((has vars x ≡ false) × (kind_in scope x ≡ Some k))
               → value_in (bind vars things rest) x ≡ held u.symbols lists_q (variable_in by_number (bound vars vs variables) x)
           same_by x k i (inl e) =
               bound_thing c inside u.symbols last_lists variables rest vars vs bk.done.outputs x (λ g. true_false (sym e.0 ∙ g)) (λ g o. true_false (sym o ∙ e.1))
@@ -526,7 +526,7 @@ module _ (w : World) (base : Ground) (threaded : IsThreaded w) (followed : Lawfu
           let long : length things ≡ length vars = length_things u.symbols last_lists vs ∙ (length_outputs inside kinds vs bk.done.outputs ∙ length_kinds c vars) in
           parts_are vars things (sym long)
 
-      loans_later : (ms : List (Loan ℕ)) → EachLoan w p parent (symbol_at u.symbols) (λ z. z < length u.symbols) naming (stage.stands.fits p object) (stage.sound.recognized p object) parent_known ms
+      loans_later : (ms : List (Loan ℕ)) → EachLoan w p parent (symbol_at u.symbols) (λ z. z < length u.symbols) naming (stage.stands.fits p stobj) (stage.sound.recognized p stobj) parent_known ms
           → map (named_loan (symbol_at s.symbols)) ms ≡ map (named_loan (symbol_at u.symbols)) ms
       loans_later [] e = refl
       loans_later (l ∷ ms) e = rw (loans_later ms e.1) (first_one (index_later e.0.1.kind))
@@ -542,7 +542,7 @@ module _ (w : World) (base : Ground) (threaded : IsThreaded w) (followed : Lawfu
       put_is : put_loans vars (logic_loans thy ns forms values) ≡ map (named_loan (symbol_at u.symbols)) lsv
       put_is =
           ap (put_loans vars) ll
-          ∙ (put_named w p parent (symbol_at s.symbols) (λ z. z < length s.symbols) (naming_at s.symbols stage.sound.table stage.sound.truth) (stage.stands.fits p object) (stage.sound.recognized p object) (stage.sound.known p object) vars ls
+          ∙ (put_named w p parent (symbol_at s.symbols) (λ z. z < length s.symbols) (naming_at s.symbols stage.sound.table stage.sound.truth) (stage.stands.fits p stobj) (stage.sound.recognized p stobj) (stage.sound.known p stobj) vars ls
           ∙ loans_later lsv each_after)
 
       ends_whole : (v : Thing) → Ends (form_counted thy consumer (bindings ++ rest)) v → Ends (form_counted thy whole values) v
@@ -610,7 +610,7 @@ module _ (w : World) (base : Ground) (threaded : IsThreaded w) (followed : Lawfu
       let test : stobj_let_holds c scope expected ns forms vars ≡ true = not_false (stobj_let_holds c scope expected ns forms vars) (s13 c mode (here (StobjLet ns forms vars producer consumer) scope formal expected) n all.0) in
       let holds : StobjLetHolds c scope expected ns forms vars = stobj_let_is c scope expected ns forms vars test in
       let p : ℕ = holds.parent in
-      let parent : IsStobj scope p × (variable_in by_number variables p ≡ Stobj p) = parent_is w threaded base.table.packages limit ev el h c mode scope suited_world.suits n variables stage.are p holds.object in
+      let parent : IsStobj scope p × (variable_in by_number variables p ≡ StobjNamed p) = parent_is w threaded base.table.packages limit ev el h c mode scope suited_world.suits n variables stage.are p holds.stobj in
       let parts : Accepted c mode (producer_scope c scope (parent_in forms) ns) producer None (name_kinds c vars) × Accepted c mode (consumer_scope c scope ns vars) consumer None expected
       = of_stobj_let c mode scope formal expected ns forms vars producer consumer all in
       let whole : Counted = form_counted thy (StobjLet ns forms vars producer consumer) values in

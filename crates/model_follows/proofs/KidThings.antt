@@ -11,18 +11,18 @@ use Rattle.model_prims.proofs.ByName.{IsNaming}
 use Rattle.model_prims.proofs.NamingLemmas.{element_named, updated_named}
 use Rattle.model_lists.specs.Lists.{StobjList, Value, Pairs, End, Item, size, item, with_item, as_object}
 use Rattle.model_lists.specs.Layouts.{Layout, Scalar, Array, Hash, Children, NoField, Field, every, recognizes}
-use Rattle.model_lists.specs.Standing.{AllItems, HasFields}
+use Rattle.model_lists.specs.LiveLists.{AllItems, HasFields}
 use Rattle.model_lists_laws.proofs.LogicalLemmas.{is_logical}
 use Rattle.model_terms.specs.Worlds.{World}
 use Rattle.model_terms.specs.Classes.{has}
 use Rattle.model_terms.specs.Nested.{BoundChild}
 use Rattle.model_eval.specs.Keeping.{Loan}
 use Rattle.model_eval.specs.Outcomes.{Stobjs}
-use Rattle.model_eval.specs.Scopes.{list_of}
-use Rattle.model_eval.specs.Children.{child_in, with_child, lent}
+use Rattle.model_eval.specs.Variables.{list_of}
+use Rattle.model_eval.specs.Lending.{child_in, with_child, lent}
 use Rattle.model_eval.specs.PlacesKeeping.{with_under}
 use Rattle.model_logic.specs.Logic.{Thing, Values, value_in, with_children, put_loans, with_parent}
-use Rattle.model_logic.specs.LogicFunctions.{child_object, with_child_object}
+use Rattle.model_logic.specs.LogicFunctions.{child_stobj, with_child_stobj}
 use Rattle.model_eval_laws.proofs.Lists.{same_number}
 use Rattle.model_accepted.specs.Threaded.{layout_of, IsField, Fits}
 use Rattle.model_accepted.specs.Loans.{children, path_of, merged, loans_among}
@@ -30,7 +30,7 @@ use Rattle.model_accepted.proofs.AcceptLemmas.{both_true, false_true}
 use Rattle.model_in_place.proofs.ObjectLemmas.{not_equal}
 use Rattle.model_in_place.proofs.LoanLemmas.{with_child_is}
 use Rattle.model_accepted.proofs.KidLemmas.{IsIndexed, IsLoan, AreLoans, loan_keeps}
-use Rattle.model_follows.specs.Worlds.{ListSymbols}
+use Rattle.model_follows.specs.FollowedWorlds.{ListSymbols}
 use Rattle.model_follows.proofs.EffectThings.{item_known, with_known, all_are_items, every_with, len_with}
 
 -- ---- fields that are there, without any field too
@@ -102,14 +102,14 @@ module _ (w : World) (p : ℕ) (parent : StobjList ℕ) (f : ℕ → QualifiedNa
   abbrev T : StobjList ℕ → Thing
   T l = named f (as_object by_number l)
 
-  -- a list that the object of this name may have
+  -- a list that the stobj of this name may have
   pub record Good (x : ℕ) (l : StobjList ℕ) : Type 0 where
     pub fits : Fits w x l
     pub recognized : recognizes by_number (layout_of w x) (as_object by_number l) ≡ true
     pub known : ListSymbols P l
 
   -- the child of a loan, and the logic's
-  pub child_good : (b : BoundChild) (l : Loan ℕ) → IsLoan w p parent b l → Good l.child (child_in l.index (item l.field parent)) × (child_object by_name l.field (option_map (named f) l.index) (T parent) ≡ T (child_in l.index (item l.field parent)))
+  pub child_good : (b : BoundChild) (l : Loan ℕ) → IsLoan w p parent b l → Good l.child (child_in l.index (item l.field parent)) × (child_stobj by_name l.field (option_map (named f) l.index) (T parent) ≡ T (child_in l.index (item l.field parent)))
   child_good b l i = go i.kind
     where
       at : At l.field (layout_of w p) i.field parent
@@ -119,7 +119,7 @@ module _ (w : World) (p : ℕ) (parent : StobjList ℕ) (f : ℕ → QualifiedNa
       field_is = element_named f P n l.field (as_object by_number parent) ∙ ap N at.access
 
       go : ((l.index ≡ None) × (b.index ≡ None) × (i.field ≡ layout_of w l.child)) ⊎ IsIndexed w parent l i.field
-          → Good l.child (child_in l.index (item l.field parent)) × (child_object by_name l.field (option_map (named f) l.index) (T parent) ≡ T (child_in l.index (item l.field parent)))
+          → Good l.child (child_in l.index (item l.field parent)) × (child_stobj by_name l.field (option_map (named f) l.index) (T parent) ≡ T (child_in l.index (item l.field parent)))
       go (inl e) =
           rw e.0 (
             record {
@@ -155,9 +155,9 @@ module _ (w : World) (p : ℕ) (parent : StobjList ℕ) (f : ℕ → QualifiedNa
 
   -- a child put into its parent, which may have other children than at first
   pub parent_good : (b : BoundChild) (l : Loan ℕ) → IsLoan w p parent b l → (m new : StobjList ℕ) → Good p m → Good l.child new
-      → Good p (with_under (path_of l) new m) × (with_child_object by_name l.field (option_map (named f) l.index) (T new) (T m) ≡ T (with_under (path_of l) new m))
+      → Good p (with_under (path_of l) new m) × (with_child_stobj by_name l.field (option_map (named f) l.index) (T new) (T m) ≡ T (with_under (path_of l) new m))
   parent_good b l i m new g k =
-      subst (λ (z : StobjList ℕ). Good p z × (with_child_object by_name l.field (option_map (named f) l.index) (T new) (T m) ≡ T z)) (with_child_is l new m)
+      subst (λ (z : StobjList ℕ). Good p z × (with_child_stobj by_name l.field (option_map (named f) l.index) (T new) (T m) ≡ T z)) (with_child_is l new m)
       (go i.kind)
     where
       at : At l.field (layout_of w p) i.field m
@@ -173,7 +173,7 @@ module _ (w : World) (p : ℕ) (parent : StobjList ℕ) (f : ℕ → QualifiedNa
       fits_after = subst (Fits w p) (sym (with_child_is l new m)) (loan_keeps w p parent parent_fits b l i m new g.fits k.fits)
 
       go : ((l.index ≡ None) × (b.index ≡ None) × (i.field ≡ layout_of w l.child)) ⊎ IsIndexed w parent l i.field
-          → Good p (with_child l new m) × (with_child_object by_name l.field (option_map (named f) l.index) (T new) (T m) ≡ T (with_child l new m))
+          → Good p (with_child l new m) × (with_child_stobj by_name l.field (option_map (named f) l.index) (T new) (T m) ≡ T (with_child l new m))
       go (inl e) = (
         record {
           fits = fits_after;
@@ -251,12 +251,12 @@ module _ (w : World) (p : ℕ) (parent : StobjList ℕ) (f : ℕ → QualifiedNa
       go : (b : Bool) → nat_eq x l.child ≡ b → (b || has (children ls) x) ≡ true
           → (has (children ls) x ≡ true → Good x (list_of (lent ls os ++ more) x) × (value_in (with_children (map (named_loan f) ls) values) x ≡ T (list_of (lent ls os ++ more) x)))
           → Good x (if b then first else list_of (lent ls os ++ more) x)
-          × ((if b then child_object by_name l.field (option_map (named f) l.index) (value_in values l.parent) else value_in (with_children (map (named_loan f) ls) values) x) ≡ T (if b then first else list_of (lent ls os ++ more) x))
+          × ((if b then child_stobj by_name l.field (option_map (named f) l.index) (value_in values l.parent) else value_in (with_children (map (named_loan f) ls) values) x) ≡ T (if b then first else list_of (lent ls os ++ more) x))
       go true g j later =
-          let both : Good l.child (child_in l.index (item l.field parent)) × (child_object by_name l.field (option_map (named f) l.index) (T parent) ≡ T (child_in l.index (item l.field parent))) = child_good h.0.0 l loan in (
+          let both : Good l.child (child_in l.index (item l.field parent)) × (child_stobj by_name l.field (option_map (named f) l.index) (T parent) ≡ T (child_in l.index (item l.field parent))) = child_good h.0.0 l loan in (
             subst (λ (z : StobjList ℕ). Good x z) (sym first_is) (subst (λ (z : ℕ). Good z (child_in l.index (item l.field parent))) (sym (eqb-true x l.child g)) both.0),
-            ap (λ (z : ℕ). child_object by_name l.field (option_map (named f) l.index) (value_in values z)) loan.from
-                ∙ (ap (child_object by_name l.field (option_map (named f) l.index)) v ∙ (both.1 ∙ ap T (sym first_is))),
+            ap (λ (z : ℕ). child_stobj by_name l.field (option_map (named f) l.index) (value_in values z)) loan.from
+                ∙ (ap (child_stobj by_name l.field (option_map (named f) l.index)) v ∙ (both.1 ∙ ap T (sym first_is))),
           )
       go false g j later = later j
 
@@ -265,7 +265,7 @@ module _ (w : World) (p : ℕ) (parent : StobjList ℕ) (f : ℕ → QualifiedNa
   kid_other (l ∷ ls) values x h = go (nat_eq x l.child) h (kid_other ls values x)
     where
       go : (b : Bool) → (b || has (children ls) x) ≡ false → (has (children ls) x ≡ false → value_in (with_children (map (named_loan f) ls) values) x ≡ value_in values x)
-          → (if b then child_object by_name l.field (option_map (named f) l.index) (value_in values l.parent) else value_in (with_children (map (named_loan f) ls) values) x) ≡ value_in values x
+          → (if b then child_stobj by_name l.field (option_map (named f) l.index) (value_in values l.parent) else value_in (with_children (map (named_loan f) ls) values) x) ≡ value_in values x
       go true g later = cc
       go false g later = later g
 
@@ -287,13 +287,13 @@ module _ (w : World) (p : ℕ) (parent : StobjList ℕ) (f : ℕ → QualifiedNa
   raised_good (l ∷ ls) kids bindings values m h k g v =
       let loan : IsLoan w p parent h.0.0 l = h.0.1 in
       let kid : Good l.child (list_of kids l.child) × (value_in bindings l.child ≡ T (list_of kids l.child)) = k l.child (ap (λ (b : Bool). b || has (children ls) l.child) (same_number l.child)) in
-      let both : Good p (with_under (path_of l) (list_of kids l.child) m) × (with_child_object by_name l.field (option_map (named f) l.index) (T (list_of kids l.child)) (T m) ≡ T (with_under (path_of l) (list_of kids l.child) m))
+      let both : Good p (with_under (path_of l) (list_of kids l.child) m) × (with_child_stobj by_name l.field (option_map (named f) l.index) (T (list_of kids l.child)) (T m) ≡ T (with_under (path_of l) (list_of kids l.child) m))
       = parent_good h.0.0 l loan m (list_of kids l.child) g kid.0 in
-      raised_good ls kids bindings ((l.parent, with_child_object by_name l.field (option_map (named f) l.index) (value_in bindings l.child) (value_in values l.parent)) ∷ values) (with_under (path_of l) (list_of kids l.child) m) h.1
+      raised_good ls kids bindings ((l.parent, with_child_stobj by_name l.field (option_map (named f) l.index) (value_in bindings l.child) (value_in values l.parent)) ∷ values) (with_under (path_of l) (list_of kids l.child) m) h.1
       (λ x i. k x (later (nat_eq x l.child) i)) both.0
-      (ap (λ (b : Bool). if b then with_child_object by_name l.field (option_map (named f) l.index) (value_in bindings l.child) (value_in values l.parent) else value_in values p) (ap (nat_eq p) loan.from ∙ same_number p)
-      ∙ (ap (λ (z : Thing). with_child_object by_name l.field (option_map (named f) l.index) z (value_in values l.parent)) kid.1
-      ∙ (ap (λ (z : Thing). with_child_object by_name l.field (option_map (named f) l.index) (T (list_of kids l.child)) z) (ap (value_in values) loan.from ∙ v) ∙ both.1)))
+      (ap (λ (b : Bool). if b then with_child_stobj by_name l.field (option_map (named f) l.index) (value_in bindings l.child) (value_in values l.parent) else value_in values p) (ap (nat_eq p) loan.from ∙ same_number p)
+      ∙ (ap (λ (z : Thing). with_child_stobj by_name l.field (option_map (named f) l.index) z (value_in values l.parent)) kid.1
+      ∙ (ap (λ (z : Thing). with_child_stobj by_name l.field (option_map (named f) l.index) (T (list_of kids l.child)) z) (ap (value_in values) loan.from ∙ v) ∙ both.1)))
     where
       later : (b : Bool) {y : Bool} → y ≡ true → (b || y) ≡ true
       later true e = refl
@@ -303,6 +303,6 @@ module _ (w : World) (p : ℕ) (parent : StobjList ℕ) (f : ℕ → QualifiedNa
   raised_other [] bindings values x h d = refl
   raised_other (l ∷ ls) bindings values x h d =
       let loan : IsLoan w p parent h.0.0 l = h.0.1 in
-      let more : Values = (l.parent, with_child_object by_name l.field (option_map (named f) l.index) (value_in bindings l.child) (value_in values l.parent)) ∷ values in
+      let more : Values = (l.parent, with_child_stobj by_name l.field (option_map (named f) l.index) (value_in bindings l.child) (value_in values l.parent)) ∷ values in
       raised_other ls bindings more x h.1 d
-      ∙ ap (λ (b : Bool). if b then with_child_object by_name l.field (option_map (named f) l.index) (value_in bindings l.child) (value_in values l.parent) else value_in values x) (ap (nat_eq x) loan.from ∙ not_equal x p d)
+      ∙ ap (λ (b : Bool). if b then with_child_stobj by_name l.field (option_map (named f) l.index) (value_in bindings l.child) (value_in values l.parent) else value_in values x) (ap (nat_eq x) loan.from ∙ not_equal x p d)

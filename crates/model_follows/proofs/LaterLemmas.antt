@@ -5,7 +5,7 @@ use Rattle.std.proofs.lemmas.Bool.Decides.{nat_tests}
 use Rattle.model_prims.specs.Kinds.{by_name, is_nil}
 use Rattle.model_terms.specs.Cores.{Core, Cores, Var, Const, If, Let, Mv, MvLet, StobjLet, WithLocal, MustBeEqual, Call, none, more}
 use Rattle.model_terms.specs.Worlds.{Definition, definition, Primitive, Defined, Macro, Constant, Concrete, Generated, Abstract, OfAbstract, Named, Signed}
-use Rattle.model_logic.specs.Logic.{Theory, Thing, Values, Found, then_found, found, bind, bind_others, elements, parts_for, Caller, spending, creator_of, logic_loans, with_children, put_loans, with_parent, form_value, form_values, defined_value, logic_of_abstract, call_within, logic_call, CallEndsWith}
+use Rattle.model_logic.specs.Logic.{Theory, Thing, Values, Found, then_found, found, bind, bind_others, element_values, parts_for, Caller, spending, creator_of, logic_loans, with_children, put_loans, with_parent, form_value, form_values, defined_value, logic_of_abstract, call_within, logic_call, CallEndsWith}
 use Rattle.model_follows.specs.CostLaw.{CallsCost}
 use Rattle.model_follows.specs.Costs.{caller, Ends}
 
@@ -77,7 +77,7 @@ module _ (b : Theory) (k l j : ℕ) where
           later_forms forms values [] _ _ (λ os z. later_form body (bind names os values) z) n
       later_form (Mv parts) values n = later_forms parts values [] _ _ (λ os z. later_now m z _) n
       later_form (MvLet names form body) values n =
-          later_then m n _ _ _ _ (later_form form values n) (λ v z. later_form body (bind names (elements names 0 v) values) z)
+          later_then m n _ _ _ _ (later_form form values n) (λ v z. later_form body (bind names (element_values names 0 v) values) z)
       later_form (StobjLet names forms vars producer consumer) values n =
           let loans = logic_loans b names forms values in
           let put = put_loans vars loans in
@@ -86,10 +86,10 @@ module _ (b : Theory) (k l j : ℕ) where
           later_then m z _ _ _ (λ v y. spending l (length put) y (last v)) (later_form producer (with_children loans values) z) (λ v y.
           later_pay (length put) y _ (last v) (λ x.
           later_form consumer (bind vars (parts_for vars v) [] ++ with_parent put (bind vars (parts_for vars v) []) values) x)))
-      later_form (WithLocal object names producer body) values n =
-          later_then m n _ _ _ _ (c (creator_of (definition b.world object)) [] n) (λ list z.
-          later_then m z _ _ _ _ (later_form producer ((object, list) ∷ values) z) (λ v y.
-          later_form body (bind_others object names (elements names 0 v) values) y))
+      later_form (WithLocal stobj names producer body) values n =
+          later_then m n _ _ _ _ (c (creator_of (definition b.world stobj)) [] n) (λ list z.
+          later_then m z _ _ _ _ (later_form producer ((stobj, list) ∷ values) z) (λ v y.
+          later_form body (bind_others stobj names (element_values names 0 v) values) y))
       later_form (MustBeEqual first exec) values n = later_form first values n
       later_form (Call f actuals) values n = later_forms actuals values [] _ _ (c f) n
 

@@ -18,12 +18,12 @@ use Rattle.model_follows.specs.Costs.{form_counted, Ends}
 use Rattle.model_symbols.specs.Growth.{Extends}
 use Rattle.std.specs.Prelude.{length}
 use Rattle.model_prims.specs.Kinds.{by_number}
-use Rattle.model_eval.specs.Scopes.{Variables, variable_in, list_of}
+use Rattle.model_eval.specs.Variables.{Variables, variable_in, list_of}
 use Rattle.model_logic.specs.Logic.{Thing, Values, creator_of}
 use Rattle.model_accepted.specs.Threaded.{IsThreaded}
-use Rattle.model_accepted.specs.Scopes.{AreVariables}
+use Rattle.model_accepted.specs.StobjScopes.{AreVariables}
 use Rattle.model_in_place.proofs.WriteLemmas.{stands_moved}
-use Rattle.model_follows.specs.Worlds.{IsFollowed}
+use Rattle.model_follows.specs.FollowedWorlds.{IsFollowed}
 use Rattle.model_follows.specs.Follows.{Followed, AreFitting, LogicFollows, things_of, one_thing, table_of, IsSound, AreNamed}
 use Rattle.model_follows.proofs.HeldThings.{Ground, by_names, held_named, all_named, kin_plain, plain_kin}
 use Rattle.model_follows.proofs.ThingLemmas.{outputs_in, same_held}
@@ -45,7 +45,7 @@ stands_anywhere w scope os fits = record {
   fits = fits.fits;
 }
 
--- ---- where every object is seen as it is
+-- ---- where every stobj is seen as it is
 
 abbrev as_they_are : Table → List QualifiedName → Ground
 as_they_are base symbols = record { table = base; written = symbols; view = λ x. None }
@@ -64,7 +64,7 @@ no_abstracts : (w : World) (base : Table) (symbols : List QualifiedName) (thread
     → AbstractsFollow w (as_they_are base symbols) threaded (lawful w base symbols threaded followed) limit symbols bg
 no_abstracts w base symbols threaded followed limit bg = record {
   follows = λ ev el h f scope name g vs a seen r there s t before. absurd (followed.concrete name g there);
-  makes = λ object creator scope now stobjs sound. absurd (followed.concrete (creator_of (definition w object)) creator.creator creator.there);
+  makes = λ stobj creator scope now stobjs sound. absurd (followed.concrete (creator_of (definition w stobj)) creator.creator creator.there);
 }
 
 begins : (w : World) (base : Table) (symbols : List QualifiedName) (scope : Scope) (variables : Variables ℕ) (s : State ℕ) (t : StateOf (Store ℕ)) (values : Values) → AreVariables scope variables → Stands w scope s.stobjs t.stobjs → AreSame s t

@@ -14,8 +14,8 @@ use Rattle.model_lists.specs.Lists.{StobjList, Value, as_object}
 use Rattle.model_lists.specs.Layouts.{Layout, Scalar, Array, Hash, Children, NoField, Field, repeated, initial, field_layout, every, recognizes, field_recognizes}
 use Rattle.model_terms.specs.Worlds.{World, Definition, Shape, definition, Primitive, Defined, Macro, Constant, Concrete, Generated, Abstract, OfAbstract, Named, Signed}
 use Rattle.model_terms.specs.Worlds as worlds
-use Rattle.model_eval.specs.Worlds.{field_type, shape_layout, fields_layout, defined_layout, layout_within, stobj_layout, most_nested}
-use Rattle.model_follows.specs.Worlds.{TypeSymbols, LayoutSymbols}
+use Rattle.model_eval.specs.StobjLayouts.{field_type, shape_layout, fields_layout, defined_layout, layout_within, stobj_layout, most_nested}
+use Rattle.model_follows.specs.FollowedWorlds.{TypeSymbols, LayoutSymbols}
 
 abbrev pub named_type : (ℕ → QualifiedName) → ValueType ℕ → ValueType QualifiedName
 named_type f Anything = Anything
@@ -228,7 +228,7 @@ module _ (f : ℕ → QualifiedName) (P : ℕ → Type 0) (n : IsNaming f P) whe
   field_recognizes_named NoField x k i = recognizes_named NoField x k i
   field_recognizes_named (Field first others) x k i = recognizes_named (Field first others) x k i
 
-  -- a new object
+  -- a new stobj
   repeated_named : (m : ℕ) (x : StobjList QualifiedName) (y : StobjList ℕ) → as_object by_name x ≡ named f (as_object by_number y) → as_object by_name (repeated m x) ≡ named f (as_object by_number (repeated m y))
   repeated_named zero x y e = ap Symbol (sym n.at_nil)
   repeated_named (suc m) x y e = rw (e, repeated_named m x y e) refl

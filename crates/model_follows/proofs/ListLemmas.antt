@@ -12,14 +12,14 @@ use Rattle.model_terms.specs.Worlds.{World, Descriptor, Definition, Concrete, de
 use Rattle.model_terms.specs.Worlds as worlds
 use Rattle.model_terms.specs.Classes.{has, repeats}
 use Rattle.model_terms.specs.Scopes.{kind_in}
-use Rattle.model_eval.specs.Outcomes.{Shown, Plain, Stobj, Stobjs}
-use Rattle.model_eval.specs.Scopes.{variable_in, list_of}
+use Rattle.model_eval.specs.Outcomes.{Shown, Plain, StobjNamed, Stobjs}
+use Rattle.model_eval.specs.Variables.{variable_in, list_of}
 use Rattle.model_eval.specs.Checked.{checked}
 use Rattle.model_logic.specs.Logic.{Theory, Thing, EndsWith}
 use Rattle.model_abstract.specs.Corresponding.{named_list, Fits, IsConcrete, CorrespondAs, Correspond}
 use Rattle.model_eval_laws.specs.Scope.{names, is_among}
 use Rattle.model_eval_laws.proofs.Lists.{same_number}
-use Rattle.model_accepted.specs.Scopes.{IsStobj, IsOfKind, AreOutputs}
+use Rattle.model_accepted.specs.StobjScopes.{IsStobj, IsOfKind, AreOutputs}
 use Rattle.model_accepted.proofs.AcceptLemmas.{false_true, true_false, neither}
 use Rattle.model_follows.specs.Follows.{thing_of_list, thing_of, things_of, one_thing, table_of, Followed}
 use Rattle.model_follows.specs.Corresponding.{Lists, as_thing, theory_with, Follow, LogicFollowsOnLists}
@@ -39,7 +39,7 @@ module _ (symbols : List QualifiedName) (at_nil : symbol_at symbols nil ≡ nil_
   list_named End = ap Symbol (sym at_nil)
   list_named (Item first rest) = rw (list_named first, list_named rest) refl
 
--- ---- lists that correspond, of concrete objects
+-- ---- lists that correspond, of concrete stobjs
 
 abbrev all_named : List QualifiedName → Stobjs ℕ → Lists
 all_named symbols os = map (λ (o : ℕ × StobjList ℕ). (o.0, named_list symbols o.1)) os
@@ -142,16 +142,16 @@ follows_on_lists = record {
     things_are scope symbols os last l [] (v ∷ vs) a = absurd a
     things_are scope symbols os last l (q ∷ ks) [] a = absurd a
     things_are scope symbols os last l (q ∷ ks) (Plain o ∷ vs) a = ap (λ (ts : List Thing). form_of symbols o ∷ ts) (things_are scope symbols os last l ks vs a.1)
-    things_are scope symbols os last l (worlds.Ordinary ∷ ks) (Stobj y ∷ vs) a = absurd a.0
-    things_are scope symbols os last l (worlds.Stobj x ∷ ks) (Stobj y ∷ vs) a = rw (l y (subst (IsStobj scope) (sym a.0.0) a.0.1), things_are scope symbols os last l ks vs a.1) refl
+    things_are scope symbols os last l (worlds.Ordinary ∷ ks) (StobjNamed y ∷ vs) a = absurd a.0
+    things_are scope symbols os last l (worlds.Stobj x ∷ ks) (StobjNamed y ∷ vs) a = rw (l y (subst (IsStobj scope) (sym a.0.0) a.0.1), things_are scope symbols os last l ks vs a.1) refl
 
     shown_is : (scope : Scope) (x : ℕ) (k : Out) (symbols : List QualifiedName) (os : Stobjs ℕ) (lists : Lists) → symbol_at symbols nil ≡ nil_name → ((y : ℕ) → IsStobj scope y → list_of lists y ≡ named_list symbols (list_of os y))
         → (v : Shown ℕ) → kind_in scope x ≡ Some k → IsOfKind x k v → as_thing symbols lists v ≡ thing_of symbols os v
     shown_is scope x k symbols os lists e l (Plain o) i g = refl
-    shown_is scope x worlds.Ordinary symbols os lists e l (Stobj y) i g = absurd g
-    shown_is scope x (worlds.Stobj z) symbols os lists e l (Stobj y) i g =
-        let object : IsStobj scope x = i ∙ ap (λ (m : ℕ). Some (worlds.Stobj m)) g.0 in
-        ap (as_object by_name) (l y (subst (IsStobj scope) (sym (same g.1)) object)) ∙ list_named symbols e (list_of os y)
+    shown_is scope x worlds.Ordinary symbols os lists e l (StobjNamed y) i g = absurd g
+    shown_is scope x (worlds.Stobj z) symbols os lists e l (StobjNamed y) i g =
+        let stobj : IsStobj scope x = i ∙ ap (λ (m : ℕ). Some (worlds.Stobj m)) g.0 in
+        ap (as_object by_name) (l y (subst (IsStobj scope) (sym (same g.1)) stobj)) ∙ list_named symbols e (list_of os y)
       where
-        same : ◌≡◌ {A = Shown ℕ} (Stobj y) (Stobj x) → y ≡ x
+        same : ◌≡◌ {A = Shown ℕ} (StobjNamed y) (StobjNamed x) → y ≡ x
         same h = cc

@@ -1,4 +1,4 @@
--- Local objects in the logic, beside checked evaluation.
+-- Local stobjs in the logic, beside checked evaluation.
 use Rattle.std.proofs.Common.{◌≡◌, ℕ, ◌<◌, ◌≤◌, List, [], ◌∷◌, length, drop, Bool, true, false, Option, Some, None, refl, sym, ap, ◌∙◌, subst, inl, inr}
 use Rattle.std.specs.Prelude.{◌≢◌, ◌⊎◌, ◌&&◌, ◌||◌, not, nat_eq, if◌then◌else◌}
 use Rattle.model_symbols.specs.Symbols.{QualifiedName, Table}
@@ -8,27 +8,27 @@ use Rattle.model_prims.specs.Kinds.{by_number}
 use Rattle.model_lists.specs.Lists.{StobjList, as_object}
 use Rattle.model_lists.specs.Layouts.{initial, recognizes}
 use Rattle.model_lists_laws.proofs.LogicalLemmas.{is_recognized}
-use Rattle.model_lists_laws.proofs.StandingLemmas.{new_objects_stand}
+use Rattle.model_lists_laws.proofs.StandingLemmas.{new_stobjs_stand}
 use Rattle.model_terms.specs.declared.rule.Mode.{Mode}
 use Rattle.model_terms.specs.declared.rule.Mode.TheVariants.{Logic}
 use Rattle.model_terms.specs.Cores.{Core, WithLocal}
 use Rattle.model_terms.specs.Worlds.{World, Definition, GeneratedFunction, Generated, definition, Out, Ordinary, Scope}
 use Rattle.model_terms.specs.Worlds as worlds
-use Rattle.model_terms.specs.Classes.{has, is_object_name}
+use Rattle.model_terms.specs.Classes.{has, is_stobj_name}
 use Rattle.model_terms.specs.Scopes.{kind_in, name_kind, name_kinds, without, other_names, local_scope, body_scope}
 use Rattle.model_terms.specs.Sites.{here}
 use Rattle.model_terms.specs.Nested.{with_local_holds}
-use Rattle.model_eval.specs.Outcomes.{Shown, Plain, Stobj, Stobjs, StateOf, State, Outcome, Gives, Stops, Unknown, then_with, with_state, counting, one_more_call}
+use Rattle.model_eval.specs.Outcomes.{Shown, Plain, StobjNamed, Stobjs, StateOf, State, Outcome, Gives, Stops, Unknown, then_with, with_state, counting, one_more_call}
 use Rattle.model_eval.specs.Keeping.{unmaking}
 use Rattle.model_eval.specs.PlacesKeeping.{Store, places_keeping}
 use Rattle.model_eval.specs.ListsKeeping.{lists_keeping}
-use Rattle.model_eval.specs.Scopes.{Variables, variable_in, bound, list_of}
+use Rattle.model_eval.specs.Variables.{Variables, variable_in, bound, list_of}
 use Rattle.model_eval.specs.Evaluated.{Evaluator, EvaluatorOf, with_fresh}
-use Rattle.model_logic.specs.Logic.{Theory, Thing, Values, value_in, bind_others, elements, creator_of, then_found, form_value}
+use Rattle.model_logic.specs.Logic.{Theory, Thing, Values, value_in, bind_others, element_values, creator_of, then_found, form_value}
 use Rattle.model_eval_laws.specs.Scope.{names}
 use Rattle.model_eval_laws.proofs.Lists.{same_number}
 use Rattle.model_accepted.specs.Threaded.{layout_of, IsFormed, IsThreaded}
-use Rattle.model_accepted.specs.Scopes.{IsStobj, IsOfKind, AreVariables}
+use Rattle.model_accepted.specs.StobjScopes.{IsStobj, IsOfKind, AreVariables}
 use Rattle.model_in_place.specs.Standing.{Stands, AreSame}
 use Rattle.model_in_place.specs.Writes.{Moves}
 use Rattle.model_accepted.specs.Accepted.{Accepted}
@@ -42,7 +42,7 @@ use Rattle.model_in_place.proofs.LocalMeeting.{local_holds, stands_new, writes_a
 use Rattle.model_in_place.proofs.CallMeeting.{May, on_lists, Meets}
 use Rattle.model_in_place.proofs.FormMeeting.{length_kinds}
 use Rattle.model_follows.specs.Costs.{Counted, caller, form_counted, Ends}
-use Rattle.model_follows.specs.Worlds.{KnowsList, IsSuited}
+use Rattle.model_follows.specs.FollowedWorlds.{KnowsList, IsSuited}
 use Rattle.model_follows.proofs.HeldThings.{Ground, Held, held, all_held, Kin, AreKin, itself, AreHeld, kin_same}
 use Rattle.model_follows.specs.Follows.{thing_of_list, one_thing, KnowsShown, table_of, IsSound, IfGives}
 use Rattle.model_follows.proofs.CostLemmas.{ends_then}
@@ -59,133 +59,133 @@ module _ (w : World) (base : Ground) (threaded : IsThreaded w) (followed : Lawfu
   abbrev thy : Theory
   thy = book w base threaded limit symbols
 
-  module _ (c : World) (mode : Mode) (scope : Scope) (object : ℕ) (locals : List ℕ) (producer body : Core) (formal : Option ℕ) (expected : List Out) (variables : Variables ℕ) (s : State ℕ) (t : StateOf (Store ℕ)) (values : Values)
-      (suited_world : Suited w base c) (n : mode ≢ Logic) (accepted : Accepted c mode scope (WithLocal object locals producer body) formal expected) (formed_producer : IsFormed c producer) (formed_body : IsFormed c body)
-      (several : 2 ≤ length locals) (creator : IsMadeInLogic w base threaded followed limit symbols bg ev el h f object s.symbols) (suited_producer : IsSuited w (length base.table.symbols) producer) (suited_body : IsSuited w (length base.table.symbols) body) (stage : Stage w base scope variables s t values) where
+  module _ (c : World) (mode : Mode) (scope : Scope) (stobj : ℕ) (locals : List ℕ) (producer body : Core) (formal : Option ℕ) (expected : List Out) (variables : Variables ℕ) (s : State ℕ) (t : StateOf (Store ℕ)) (values : Values)
+      (suited_world : Suited w base c) (n : mode ≢ Logic) (accepted : Accepted c mode scope (WithLocal stobj locals producer body) formal expected) (formed_producer : IsFormed c producer) (formed_body : IsFormed c body)
+      (several : 2 ≤ length locals) (creator : IsMadeInLogic w base threaded followed limit symbols bg ev el h f stobj s.symbols) (suited_producer : IsSuited w (length base.table.symbols) producer) (suited_body : IsSuited w (length base.table.symbols) body) (stage : Stage w base scope variables s t values) where
     abbrev inner : Scope
-    inner = local_scope c scope object
+    inner = local_scope c scope stobj
 
     abbrev l : StobjList ℕ
-    l = initial (layout_of w object)
+    l = initial (layout_of w stobj)
 
     abbrev made : Thing
     made = creator.made
 
     abbrev with_it : State ℕ
-    with_it = record (one_more_call s) { stobjs = (object, l) ∷ s.stobjs }
+    with_it = record (one_more_call s) { stobjs = (stobj, l) ∷ s.stobjs }
 
     abbrev whole : Core
-    whole = WithLocal object locals producer body
+    whole = WithLocal stobj locals producer body
 
-    named_object : is_object_name c object ≡ true
-    named_object = (local_holds c scope expected object locals producer (not_false (with_local_holds c scope expected object locals producer) (s14 c mode (here whole scope formal expected) n accepted.0))).named
+    named_object : is_stobj_name c stobj ≡ true
+    named_object = (local_holds c scope expected stobj locals producer (not_false (with_local_holds c scope expected stobj locals producer) (s14 c mode (here whole scope formal expected) n accepted.0))).named
 
     abbrev around : ℕ → Type 0
-    around x = (x ≡ object) ⊎ ((x ≢ object) × IsStobj scope x)
+    around x = (x ≡ stobj) ⊎ ((x ≢ stobj) × IsStobj scope x)
 
-    inner_sound : IsSound w base.table inner s.symbols ((object, l) ∷ s.stobjs)
+    inner_sound : IsSound w base.table inner s.symbols ((stobj, l) ∷ s.stobjs)
     inner_sound = record {
       table = stage.sound.table;
       truth = stage.sound.truth;
       grown = stage.sound.grown;
-      known = λ x i. known_by x (local_object c scope object x i);
-      recognized = λ x i. recognized_by x (local_object c scope object x i);
+      known = λ x i. known_by x (local_object c scope stobj x i);
+      recognized = λ x i. recognized_by x (local_object c scope stobj x i);
     }
       where
-        known_by : (x : ℕ) → around x → KnowsList (length s.symbols) (list_of ((object, l) ∷ s.stobjs) x)
-        known_by x (inl e) = rw (e, same_number object) (initial_known (λ q. q < length s.symbols) (layout_of w object) (layout_weaker base.table (table_of base.table.packages s.symbols) stage.sound.grown (layout_of w object) (followed.layouts object)))
-        known_by x (inr i) = rw (not_equal x object i.0) (stage.sound.known x i.1)
+        known_by : (x : ℕ) → around x → KnowsList (length s.symbols) (list_of ((stobj, l) ∷ s.stobjs) x)
+        known_by x (inl e) = rw (e, same_number stobj) (initial_known (λ q. q < length s.symbols) (layout_of w stobj) (layout_weaker base.table (table_of base.table.packages s.symbols) stage.sound.grown (layout_of w stobj) (followed.layouts stobj)))
+        known_by x (inr i) = rw (not_equal x stobj i.0) (stage.sound.known x i.1)
 
-        recognized_by : (x : ℕ) → around x → recognizes by_number (layout_of w x) (as_object by_number (list_of ((object, l) ∷ s.stobjs) x)) ≡ true
+        recognized_by : (x : ℕ) → around x → recognizes by_number (layout_of w x) (as_object by_number (list_of ((stobj, l) ∷ s.stobjs) x)) ≡ true
         recognized_by x (inl e) =
-            subst (λ (z : ℕ). recognizes by_number (layout_of w z) (as_object by_number (list_of ((object, l) ∷ s.stobjs) z)) ≡ true) (sym e)
-            (ap (λ (b : Bool). recognizes by_number (layout_of w object) (as_object by_number (if b then l else list_of s.stobjs object))) (same_number object) ∙ is_recognized.numbered (layout_of w object) (followed.initials object))
+            subst (λ (z : ℕ). recognizes by_number (layout_of w z) (as_object by_number (list_of ((stobj, l) ∷ s.stobjs) z)) ≡ true) (sym e)
+            (ap (λ (b : Bool). recognizes by_number (layout_of w stobj) (as_object by_number (if b then l else list_of s.stobjs stobj))) (same_number stobj) ∙ is_recognized.numbered (layout_of w stobj) (followed.initials stobj))
         recognized_by x (inr i) =
-            ap (λ (b : Bool). recognizes by_number (layout_of w x) (as_object by_number (if b then l else list_of s.stobjs x))) (not_equal x object i.0) ∙ stage.sound.recognized x i.1
+            ap (λ (b : Bool). recognizes by_number (layout_of w x) (as_object by_number (if b then l else list_of s.stobjs x))) (not_equal x stobj i.0) ∙ stage.sound.recognized x i.1
 
     abbrev inner_lists : Held
-    inner_lists = λ x. if nat_eq x object then made else stage.lists x
+    inner_lists = λ x. if nat_eq x stobj then made else stage.lists x
 
-    inner_kin : AreKin w base itself inner s.symbols ((object, l) ∷ s.stobjs) inner_lists
-    inner_kin = record { each = λ x i. go x (local_object c scope object x i) }
+    inner_kin : AreKin w base itself inner s.symbols ((stobj, l) ∷ s.stobjs) inner_lists
+    inner_kin = record { each = λ x i. go x (local_object c scope stobj x i) }
       where
-        go : (x : ℕ) → around x → Kin w base s.symbols x (list_of ((object, l) ∷ s.stobjs) x) (inner_lists x)
-        go x (inl e) = subst (λ (z : ℕ). Kin w base s.symbols z (list_of ((object, l) ∷ s.stobjs) z) (inner_lists z)) (sym e) (rw (same_number object) creator.kin)
-        go x (inr i) = rw (not_equal x object i.0) (stage.kin.each x i.1)
+        go : (x : ℕ) → around x → Kin w base s.symbols x (list_of ((stobj, l) ∷ s.stobjs) x) (inner_lists x)
+        go x (inl e) = subst (λ (z : ℕ). Kin w base s.symbols z (list_of ((stobj, l) ∷ s.stobjs) z) (inner_lists z)) (sym e) (rw (same_number stobj) creator.kin)
+        go x (inr i) = rw (not_equal x stobj i.0) (stage.kin.each x i.1)
 
-    inner_named : AreHeld inner ((object, Stobj object) ∷ variables) s.symbols inner_lists ((object, made) ∷ values)
+    inner_named : AreHeld inner ((stobj, StobjNamed stobj) ∷ variables) s.symbols inner_lists ((stobj, made) ∷ values)
     inner_named = record {
-      known = λ x k i. known_by x k (nat_eq x object) refl (subst (λ (m : Option Out). m ≡ Some k) (kind_bound c scope (object ∷ []) x) i);
-      same = λ x k i. same_by x k (nat_eq x object) refl (subst (λ (m : Option Out). m ≡ Some k) (kind_bound c scope (object ∷ []) x) i);
+      known = λ x k i. known_by x k (nat_eq x stobj) refl (subst (λ (m : Option Out). m ≡ Some k) (kind_bound c scope (stobj ∷ []) x) i);
+      same = λ x k i. same_by x k (nat_eq x stobj) refl (subst (λ (m : Option Out). m ≡ Some k) (kind_bound c scope (stobj ∷ []) x) i);
     }
       where
-        known_by : (x : ℕ) (k : Out) (b : Bool) → nat_eq x object ≡ b → (if b || false then Some (name_kind c x) else kind_in scope x) ≡ Some k → KnowsShown (length s.symbols) (if b then Stobj object else variable_in by_number variables x)
+        known_by : (x : ℕ) (k : Out) (b : Bool) → nat_eq x stobj ≡ b → (if b || false then Some (name_kind c x) else kind_in scope x) ≡ Some k → KnowsShown (length s.symbols) (if b then StobjNamed stobj else variable_in by_number variables x)
         known_by x k true e i = tt
         known_by x k false e i = stage.named.known x k i
 
-        passed : (x : ℕ) (k : Out) (v : Shown ℕ) → nat_eq x object ≡ false → IsOfKind x k v → held s.symbols inner_lists v ≡ held s.symbols stage.lists v
+        passed : (x : ℕ) (k : Out) (v : Shown ℕ) → nat_eq x stobj ≡ false → IsOfKind x k v → held s.symbols inner_lists v ≡ held s.symbols stage.lists v
         passed x k (Plain o) e i = refl
-        passed x Ordinary (Stobj y) e i = absurd i
-        passed x (worlds.Stobj z) (Stobj y) e i = ap (λ (b : Bool). if b then made else stage.lists y) (ap (λ (u : ℕ). nat_eq u object) (same i.1) ∙ e)
+        passed x Ordinary (StobjNamed y) e i = absurd i
+        passed x (worlds.Stobj z) (StobjNamed y) e i = ap (λ (b : Bool). if b then made else stage.lists y) (ap (λ (u : ℕ). nat_eq u stobj) (same i.1) ∙ e)
           where
-            same : ◌≡◌ {A = Shown ℕ} (Stobj y) (Stobj x) → y ≡ x
+            same : ◌≡◌ {A = Shown ℕ} (StobjNamed y) (StobjNamed x) → y ≡ x
             same g = cc
 
-        same_by : (x : ℕ) (k : Out) (b : Bool) → nat_eq x object ≡ b → (if b || false then Some (name_kind c x) else kind_in scope x) ≡ Some k
-            → (if b then made else value_in values x) ≡ held s.symbols inner_lists (if b then Stobj object else variable_in by_number variables x)
-        same_by x k true e i = rw (same_number object) refl
+        same_by : (x : ℕ) (k : Out) (b : Bool) → nat_eq x stobj ≡ b → (if b || false then Some (name_kind c x) else kind_in scope x) ≡ Some k
+            → (if b then made else value_in values x) ≡ held s.symbols inner_lists (if b then StobjNamed stobj else variable_in by_number variables x)
+        same_by x k true e i = rw (same_number stobj) refl
         same_by x k false e i = stage.named.same x k i ∙ sym (passed x k (variable_in by_number variables x) e (stage.are.each x k i))
 
     abbrev inner_t : StateOf (Store ℕ)
-    inner_t = new_places w scope object l (one_more_call s) (one_more_call t) stage.stands
+    inner_t = new_places w scope stobj l (one_more_call s) (one_more_call t) stage.stands
 
-    inside_object : (x : ℕ) → x ≢ object → IsStobj scope x → IsStobj inner x
-    inside_object x d i = kind_bound c scope (object ∷ []) x ∙ (ap (λ (b : Bool). if b || false then Some (name_kind c x) else kind_in scope x) (not_equal x object d) ∙ i)
+    inside_object : (x : ℕ) → x ≢ stobj → IsStobj scope x → IsStobj inner x
+    inside_object x d i = kind_bound c scope (stobj ∷ []) x ∙ (ap (λ (b : Bool). if b || false then Some (name_kind c x) else kind_in scope x) (not_equal x stobj d) ∙ i)
 
     abbrev logic : Counted
-    logic = form_counted thy producer ((object, made) ∷ values)
+    logic = form_counted thy producer ((stobj, made) ∷ values)
 
     module _ (vs : List (Shown ℕ)) (u : State ℕ) (d : Did w base inner (name_kinds c locals) with_it inner_t logic vs u) where
       abbrev q : State ℕ
       q = unmaking lists_keeping u
 
-      -- the lists of L with the local object, and without it
+      -- the lists of L with the local stobj, and without it
       abbrev last_lists : Held
       last_lists = held_after inner (name_kinds c locals) inner_lists d.mine.last
 
       abbrev outer_lists : Held
-      outer_lists = λ x. if nat_eq x object then stage.lists x else last_lists x
+      outer_lists = λ x. if nat_eq x stobj then stage.lists x else last_lists x
 
       abbrev things : List Thing
       things = all_held u.symbols last_lists vs
 
       last_kin : AreKin w base itself inner u.symbols u.stobjs last_lists
       last_kin =
-          kin_after w base inner (name_kinds c locals) s.symbols u.symbols ((object, l) ∷ s.stobjs) u.stobjs inner_lists d.mine.last (nil_known w base scope s.symbols s.stobjs stage.sound) d.mine.grown inner_sound.known
+          kin_after w base inner (name_kinds c locals) s.symbols u.symbols ((stobj, l) ∷ s.stobjs) u.stobjs inner_lists d.mine.last (nil_known w base scope s.symbols s.stobjs stage.sound) d.mine.grown inner_sound.known
           (unchanged w inner (name_kinds c locals) with_it inner_t u d.to d.moves) inner_kin d.mine.kin
 
       producer_ends : Ends logic (one_thing things)
       producer_ends =
           subst (λ (os : List Thing). Ends logic (one_thing os)) (sym (outputs_returned inner u.symbols (name_kinds c locals) (name_kinds c locals) inner_lists d.mine.last vs d.outputs (λ x h. h))) d.mine.ends
 
-      names_u : names u.stobjs ≡ object ∷ names s.stobjs
-      names_u = ap (λ (o : Stobjs ℕ). names o) d.moves.stobjs ∙ names_after d.moves.writes ((object, l) ∷ s.stobjs)
+      names_u : names u.stobjs ≡ stobj ∷ names s.stobjs
+      names_u = ap (λ (o : Stobjs ℕ). names o) d.moves.stobjs ∙ names_after d.moves.writes ((stobj, l) ∷ s.stobjs)
 
-      behind : (x : ℕ) → nat_eq x object ≡ false → list_of q.stobjs x ≡ list_of u.stobjs x
-      behind x e = list_behind u.stobjs object (names s.stobjs) x names_u e
+      behind : (x : ℕ) → nat_eq x stobj ≡ false → list_of q.stobjs x ≡ list_of u.stobjs x
+      behind x e = list_behind u.stobjs stobj (names s.stobjs) x names_u e
 
-      shadow : list_of q.stobjs object ≡ list_of s.stobjs object
+      shadow : list_of q.stobjs stobj ≡ list_of s.stobjs stobj
       shadow =
-          ap (λ (o : Stobjs ℕ). list_of o object) (ap (drop 1) d.moves.stobjs ∙ objects_around object d.moves.writes l s.stobjs)
-          ∙ unwritten w (λ y. y ≢ object) (writes_around object d.moves.writes) s.stobjs object (λ y i e. i (sym e))
-          (allowed_around w object d.moves.writes (May inner (name_kinds c locals)) (λ y. y ≢ object) (λ y i. equal_or_not y object) d.moves.allowed)
+          ap (λ (o : Stobjs ℕ). list_of o stobj) (ap (drop 1) d.moves.stobjs ∙ objects_around stobj d.moves.writes l s.stobjs)
+          ∙ unwritten w (λ y. y ≢ stobj) (writes_around stobj d.moves.writes) s.stobjs stobj (λ y i e. i (sym e))
+          (allowed_around w stobj d.moves.writes (May inner (name_kinds c locals)) (λ y. y ≢ stobj) (λ y i. equal_or_not y stobj) d.moves.allowed)
 
       moved : Moves w (IsStobj scope) (one_more_call s) (one_more_call t) q (unmaking places_keeping d.to)
       moved =
-          moves_around w scope object l (one_more_call s) (one_more_call t) stage.stands (Unit {0}) (May inner (name_kinds c locals)) (IsStobj scope) u d.to (λ y i. local_object c scope object y i.1)
-          (λ y i. only (local_object c scope object y i.1)) d.moves
+          moves_around w scope stobj l (one_more_call s) (one_more_call t) stage.stands (Unit {0}) (May inner (name_kinds c locals)) (IsStobj scope) u d.to (λ y i. local_object c scope stobj y i.1)
+          (λ y i. only (local_object c scope stobj y i.1)) d.moves
         where
-          only : {y : ℕ} → around y → (y ≡ object) ⊎ IsStobj scope y
+          only : {y : ℕ} → around y → (y ≡ stobj) ⊎ IsStobj scope y
           only (inl e) = inl e
           only (inr e) = inr e.1
 
@@ -206,44 +206,44 @@ module _ (w : World) (base : Ground) (threaded : IsThreaded w) (followed : Lawfu
         table = d.mine.sound.table;
         truth = d.mine.sound.truth;
         grown = d.mine.sound.grown;
-        known = λ x o. known_by x o (equal_or_not x object);
-        recognized = λ x o. recognized_by x o (equal_or_not x object);
+        known = λ x o. known_by x o (equal_or_not x stobj);
+        recognized = λ x o. recognized_by x o (equal_or_not x stobj);
       }
         where
-          known_by : (x : ℕ) → IsStobj scope x → (x ≡ object) ⊎ (x ≢ object) → KnowsList (length u.symbols) (list_of q.stobjs x)
+          known_by : (x : ℕ) → IsStobj scope x → (x ≡ stobj) ⊎ (x ≢ stobj) → KnowsList (length u.symbols) (list_of q.stobjs x)
           known_by x o (inl e) =
               subst (λ (z : ℕ). KnowsList (length u.symbols) (list_of q.stobjs z)) (sym e)
               (subst (KnowsList (length u.symbols)) (sym shadow)
-              (knows_list_stays (table_of base.table.packages s.symbols) (table_of base.table.packages u.symbols) grown (list_of s.stobjs object) (stage.sound.known object (subst (IsStobj scope) e o))))
-          known_by x o (inr e) = subst (KnowsList (length u.symbols)) (sym (behind x (not_equal x object e))) (d.mine.sound.known x (inside_object x e o))
+              (knows_list_stays (table_of base.table.packages s.symbols) (table_of base.table.packages u.symbols) grown (list_of s.stobjs stobj) (stage.sound.known stobj (subst (IsStobj scope) e o))))
+          known_by x o (inr e) = subst (KnowsList (length u.symbols)) (sym (behind x (not_equal x stobj e))) (d.mine.sound.known x (inside_object x e o))
 
-          recognized_by : (x : ℕ) → IsStobj scope x → (x ≡ object) ⊎ (x ≢ object) → recognizes by_number (layout_of w x) (as_object by_number (list_of q.stobjs x)) ≡ true
+          recognized_by : (x : ℕ) → IsStobj scope x → (x ≡ stobj) ⊎ (x ≢ stobj) → recognizes by_number (layout_of w x) (as_object by_number (list_of q.stobjs x)) ≡ true
           recognized_by x o (inl e) =
               subst (λ (z : ℕ). recognizes by_number (layout_of w z) (as_object by_number (list_of q.stobjs z)) ≡ true) (sym e)
-              (ap (λ (k : StobjList ℕ). recognizes by_number (layout_of w object) (as_object by_number k)) shadow ∙ stage.sound.recognized object (subst (IsStobj scope) e o))
+              (ap (λ (k : StobjList ℕ). recognizes by_number (layout_of w stobj) (as_object by_number k)) shadow ∙ stage.sound.recognized stobj (subst (IsStobj scope) e o))
           recognized_by x o (inr e) =
-              ap (λ (k : StobjList ℕ). recognizes by_number (layout_of w x) (as_object by_number k)) (behind x (not_equal x object e)) ∙ d.mine.sound.recognized x (inside_object x e o)
+              ap (λ (k : StobjList ℕ). recognizes by_number (layout_of w x) (as_object by_number k)) (behind x (not_equal x stobj e)) ∙ d.mine.sound.recognized x (inside_object x e o)
 
       kin_q : AreKin w base itself scope u.symbols q.stobjs outer_lists
-      kin_q = record { each = λ x o. go x o (equal_or_not x object) }
+      kin_q = record { each = λ x o. go x o (equal_or_not x stobj) }
         where
-          go : (x : ℕ) → IsStobj scope x → (x ≡ object) ⊎ (x ≢ object) → Kin w base u.symbols x (list_of q.stobjs x) (outer_lists x)
+          go : (x : ℕ) → IsStobj scope x → (x ≡ stobj) ⊎ (x ≢ stobj) → Kin w base u.symbols x (list_of q.stobjs x) (outer_lists x)
           go x o (inl e) =
               subst (λ (z : ℕ). Kin w base u.symbols z (list_of q.stobjs z) (outer_lists z)) (sym e)
-              (kin_same w base s.symbols u.symbols object (list_of s.stobjs object) (list_of q.stobjs object) (stage.lists object) (outer_lists object)
+              (kin_same w base s.symbols u.symbols stobj (list_of s.stobjs stobj) (list_of q.stobjs stobj) (stage.lists stobj) (outer_lists stobj)
               (ap (thing_of_list u.symbols) shadow
-              ∙ list_stays (table_of base.table.packages s.symbols) (table_of base.table.packages u.symbols) grown (list_of s.stobjs object) (nil_known w base scope s.symbols s.stobjs stage.sound) (stage.sound.known object (subst (IsStobj scope) e o)))
-              (ap (λ (b : Bool). if b then stage.lists object else last_lists object) (same_number object)) (stage.kin.each object (subst (IsStobj scope) e o)))
+              ∙ list_stays (table_of base.table.packages s.symbols) (table_of base.table.packages u.symbols) grown (list_of s.stobjs stobj) (nil_known w base scope s.symbols s.stobjs stage.sound) (stage.sound.known stobj (subst (IsStobj scope) e o)))
+              (ap (λ (b : Bool). if b then stage.lists stobj else last_lists stobj) (same_number stobj)) (stage.kin.each stobj (subst (IsStobj scope) e o)))
           go x o (inr e) =
-              kin_same w base u.symbols u.symbols x (list_of u.stobjs x) (list_of q.stobjs x) (last_lists x) (outer_lists x) (ap (thing_of_list u.symbols) (behind x (not_equal x object e)))
-              (ap (λ (b : Bool). if b then stage.lists x else last_lists x) (not_equal x object e)) (last_kin.each x (inside_object x e o))
+              kin_same w base u.symbols u.symbols x (list_of u.stobjs x) (list_of q.stobjs x) (last_lists x) (outer_lists x) (ap (thing_of_list u.symbols) (behind x (not_equal x stobj e)))
+              (ap (λ (b : Bool). if b then stage.lists x else last_lists x) (not_equal x stobj e)) (last_kin.each x (inside_object x e o))
 
       abbrev outer : Scope
-      outer = body_scope c scope object locals
+      outer = body_scope c scope stobj locals
 
-      -- a name in the scope of the body is not the local object's, and was in scope where it is not bound
-      not_it : (x : ℕ) (k : Out) → kind_in outer x ≡ Some k → nat_eq x object ≡ false
-      not_it x k i = go (has (other_names object locals) x) refl (subst (λ (m : Option Out). m ≡ Some k) (kind_bound c (without (object ∷ []) scope) (other_names object locals) x) i)
+      -- a name in the scope of the body is not the local stobj's, and was in scope where it is not bound
+      not_it : (x : ℕ) (k : Out) → kind_in outer x ≡ Some k → nat_eq x stobj ≡ false
+      not_it x k i = go (has (other_names stobj locals) x) refl (subst (λ (m : Option Out). m ≡ Some k) (kind_bound c (without (stobj ∷ []) scope) (other_names stobj locals) x) i)
         where
           bound_one : (a b : Bool) → (a && not b) ≡ true → b ≡ false
           bound_one true true e = false_true e
@@ -254,28 +254,28 @@ module _ (w : World) (base : Ground) (threaded : IsThreaded w) (followed : Lawfu
           outside_one true e = none_some e
           outside_one false e = refl
 
-          go : (b : Bool) → has (other_names object locals) x ≡ b → (if b then Some (name_kind c x) else kind_in (without (object ∷ []) scope) x) ≡ Some k → nat_eq x object ≡ false
-          go true e j = bound_one (has locals x) (nat_eq x object) (sym (has_other object locals x) ∙ e)
-          go false e j = outside_one (nat_eq x object) (sym (kind_without (object ∷ []) scope x) ∙ j)
+          go : (b : Bool) → has (other_names stobj locals) x ≡ b → (if b then Some (name_kind c x) else kind_in (without (stobj ∷ []) scope) x) ≡ Some k → nat_eq x stobj ≡ false
+          go true e j = bound_one (has locals x) (nat_eq x stobj) (sym (has_other stobj locals x) ∙ e)
+          go false e j = outside_one (nat_eq x stobj) (sym (kind_without (stobj ∷ []) scope x) ∙ j)
 
       was_there : (x : ℕ) (k : Out) → kind_in outer x ≡ Some k → has locals x ≡ false → kind_in scope x ≡ Some k
       was_there x k i n =
-          let not_other : has (other_names object locals) x ≡ false = has_other object locals x ∙ ap (λ (b : Bool). b && not (nat_eq x object)) n in
-          sym (ap (λ (b : Bool). if b || false then None else kind_in scope x) (not_it x k i)) ∙ (sym (kind_without (object ∷ []) scope x)
-          ∙ (sym (ap (λ (b : Bool). if b then Some (name_kind c x) else kind_in (without (object ∷ []) scope) x) not_other)
-          ∙ (sym (kind_bound c (without (object ∷ []) scope) (other_names object locals) x) ∙ i)))
+          let not_other : has (other_names stobj locals) x ≡ false = has_other stobj locals x ∙ ap (λ (b : Bool). b && not (nat_eq x stobj)) n in
+          sym (ap (λ (b : Bool). if b || false then None else kind_in scope x) (not_it x k i)) ∙ (sym (kind_without (stobj ∷ []) scope x)
+          ∙ (sym (ap (λ (b : Bool). if b then Some (name_kind c x) else kind_in (without (stobj ∷ []) scope) x) not_other)
+          ∙ (sym (kind_bound c (without (stobj ∷ []) scope) (other_names stobj locals) x) ∙ i)))
 
-      object_shown : (x : ℕ) → nat_eq x object ≡ false → has locals x ≡ true → is_object_name c x ≡ true → variable_in by_number variables x ≡ Stobj x
-      object_shown x e n o = go (local_object c scope object x (output_object c inner locals vs x d.outputs n o))
+      object_shown : (x : ℕ) → nat_eq x stobj ≡ false → has locals x ≡ true → is_stobj_name c x ≡ true → variable_in by_number variables x ≡ StobjNamed x
+      object_shown x e n o = go (local_object c scope stobj x (output_object c inner locals vs x d.outputs n o))
         where
-          go : around x → variable_in by_number variables x ≡ Stobj x
-          go (inl g) = true_false (sym (same_number object) ∙ (ap (λ (z : ℕ). nat_eq z object) (sym g) ∙ e))
+          go : around x → variable_in by_number variables x ≡ StobjNamed x
+          go (inl g) = true_false (sym (same_number stobj) ∙ (ap (λ (z : ℕ). nat_eq z stobj) (sym g) ∙ e))
           go (inr g) = (stage.are.each x (worlds.Stobj x) g.1).1
 
       outer_are : AreVariables outer (bound locals vs variables)
-      outer_are = body_variables c scope object locals vs variables d.outputs stage.are
+      outer_are = body_variables c scope stobj locals vs variables d.outputs stage.are
 
-      outer_named : AreHeld outer (bound locals vs variables) u.symbols outer_lists (bind_others object locals things values)
+      outer_named : AreHeld outer (bound locals vs variables) u.symbols outer_lists (bind_others stobj locals things values)
       outer_named = record { known = λ x k i. known_by x k i (has locals x) refl; same = same_by }
         where
           known_by : (x : ℕ) (k : Out) → kind_in outer x ≡ Some k → (b : Bool) → has locals x ≡ b → KnowsShown (length u.symbols) (variable_in by_number (bound locals vs variables) x)
@@ -284,82 +284,82 @@ module _ (w : World) (base : Ground) (threaded : IsThreaded w) (followed : Lawfu
               bound_known c inner u.symbols last_lists variables values (length u.symbols) locals vs d.mine.known x
               (known_one (table_of base.table.packages s.symbols) (table_of base.table.packages u.symbols) grown scope variables values stage.lists last_lists stage.are stage.named x k (was_there x k i e))
 
-          passed : (x : ℕ) (k : Out) (v : Shown ℕ) → nat_eq x object ≡ false → IsOfKind x k v → held u.symbols last_lists v ≡ held u.symbols outer_lists v
+          passed : (x : ℕ) (k : Out) (v : Shown ℕ) → nat_eq x stobj ≡ false → IsOfKind x k v → held u.symbols last_lists v ≡ held u.symbols outer_lists v
           passed x k (Plain o) e i = refl
-          passed x Ordinary (Stobj y) e i = absurd i
-          passed x (worlds.Stobj z) (Stobj y) e i = sym (ap (λ (b : Bool). if b then stage.lists y else last_lists y) (ap (λ (m : ℕ). nat_eq m object) (same i.1) ∙ e))
+          passed x Ordinary (StobjNamed y) e i = absurd i
+          passed x (worlds.Stobj z) (StobjNamed y) e i = sym (ap (λ (b : Bool). if b then stage.lists y else last_lists y) (ap (λ (m : ℕ). nat_eq m stobj) (same i.1) ∙ e))
             where
-              same : ◌≡◌ {A = Shown ℕ} (Stobj y) (Stobj x) → y ≡ x
+              same : ◌≡◌ {A = Shown ℕ} (StobjNamed y) (StobjNamed x) → y ≡ x
               same g = cc
 
-          same_by : (x : ℕ) (k : Out) → kind_in outer x ≡ Some k → value_in (bind_others object locals things values) x ≡ held u.symbols outer_lists (variable_in by_number (bound locals vs variables) x)
+          same_by : (x : ℕ) (k : Out) → kind_in outer x ≡ Some k → value_in (bind_others stobj locals things values) x ≡ held u.symbols outer_lists (variable_in by_number (bound locals vs variables) x)
           same_by x k i =
-              others_bound object locals things values x (not_it x k i)
+              others_bound stobj locals things values x (not_it x k i)
               ∙ (bound_thing c inner u.symbols last_lists variables values locals vs d.outputs x
               (λ n. named_one (table_of base.table.packages s.symbols) (table_of base.table.packages u.symbols) grown scope variables values stage.lists last_lists stage.are stage.named x k (was_there x k i n)
               (λ o. after_unreturned inner (name_kinds c locals) inner_lists d.mine.last x (has_object c locals x ∙ rw n refl) ∙ ap (λ (b : Bool). if b then made else stage.lists x) (not_it x k i)))
               (object_shown x (not_it x k i))
               ∙ passed x k (variable_in by_number (bound locals vs variables) x) (not_it x k i) (outer_are.each x k i))
 
-      things_are : elements locals 0 (one_thing things) ≡ things
+      things_are : element_values locals 0 (one_thing things) ≡ things
       things_are =
           let long : length things ≡ length locals = length_things u.symbols last_lists vs ∙ (length_outputs inner (name_kinds c locals) vs d.outputs ∙ length_kinds c locals) in
-          ap (elements locals 0) (one_of_several things (subst (λ (m : ℕ). 2 ≤ m) (sym long) several)) ∙ elements_are locals things (sym long)
+          ap (element_values locals 0) (one_of_several things (subst (λ (m : ℕ). 2 ≤ m) (sym long) several)) ∙ elements_are locals things (sym long)
 
       after_producer : IfGives (Mine w base scope s (form_counted thy whole values)) (ev body (bound locals vs variables) q)
       unfolding form_value
       after_producer =
-          gives_map (Did w base outer expected q (unmaking places_keeping d.to) (form_counted thy body (bind_others object locals things values))) (Mine w base scope s (form_counted thy whole values)) (ev body (bound locals vs variables) q)
+          gives_map (Did w base outer expected q (unmaking places_keeping d.to) (form_counted thy body (bind_others stobj locals things values))) (Mine w base scope s (form_counted thy whole values)) (ev body (bound locals vs variables) q)
           (λ given z e. record {
             last = held_after outer expected outer_lists e.mine.last;
             kin = kin_wider w base outer scope u.symbols z.symbols q.stobjs z.stobjs outer_lists (held_after outer expected outer_lists e.mine.last) (nil_known w base scope u.symbols q.stobjs sound_q) e.mine.grown sound_q.known
                 (λ x i. unseen w outer expected q (unmaking places_keeping d.to) z e.to e.moves x i) (λ x i. after_unseen outer expected outer_lists e.mine.last x i) kin_q
                 (kin_after w base outer expected u.symbols z.symbols q.stobjs z.stobjs outer_lists e.mine.last (nil_known w base scope u.symbols q.stobjs sound_q) e.mine.grown
-                (λ x i. sound_q.known x (body_objects c scope object locals vs variables d.outputs x i)) (unchanged w outer expected q (unmaking places_keeping d.to) z e.to e.moves)
-                (kin_less w base itself outer scope u.symbols q.stobjs outer_lists (λ x i. body_objects c scope object locals vs variables d.outputs x i) kin_q) e.mine.kin);
+                (λ x i. sound_q.known x (body_objects c scope stobj locals vs variables d.outputs x i)) (unchanged w outer expected q (unmaking places_keeping d.to) z e.to e.moves)
+                (kin_less w base itself outer scope u.symbols q.stobjs outer_lists (λ x i. body_objects c scope stobj locals vs variables d.outputs x i) kin_q) e.mine.kin);
             sound = sound_wider w base outer scope u.symbols z.symbols q.stobjs z.stobjs sound_q e.mine.sound e.mine.grown (λ x i. unseen w outer expected q (unmaking places_keeping d.to) z e.to e.moves x i);
             grown = Extends-then grown e.mine.grown;
             known = e.mine.known;
             ends =
-                ends_then (λ budget nest start. caller thy budget nest (creator_of (definition w object)) [] start)
-                (λ o budget nest start. then_found (form_counted thy producer ((object, o) ∷ values) budget nest start) (λ v calls. form_counted thy body (bind_others object locals (elements locals 0 v) values) budget nest calls))
+                ends_then (λ budget nest start. caller thy budget nest (creator_of (definition w stobj)) [] start)
+                (λ o budget nest start. then_found (form_counted thy producer ((stobj, o) ∷ values) budget nest start) (λ v calls. form_counted thy body (bind_others stobj locals (element_values locals 0 v) values) budget nest calls))
                 made (one_thing (all_held z.symbols (held_after outer expected outer_lists e.mine.last) given)) creator.makes
-                (ends_then logic (λ v. form_counted thy body (bind_others object locals (elements locals 0 v) values)) (one_thing things) (one_thing (all_held z.symbols (held_after outer expected outer_lists e.mine.last) given)) producer_ends
-                (subst (λ (os : List Thing). Ends (form_counted thy body (bind_others object locals os values)) (one_thing (all_held z.symbols (held_after outer expected outer_lists e.mine.last) given))) (sym things_are)
-                (subst (λ (os : List Thing). Ends (form_counted thy body (bind_others object locals things values)) (one_thing os)) (sym (outputs_returned outer z.symbols expected expected outer_lists e.mine.last given e.outputs (λ x h. h))) e.mine.ends)));
+                (ends_then logic (λ v. form_counted thy body (bind_others stobj locals (element_values locals 0 v) values)) (one_thing things) (one_thing (all_held z.symbols (held_after outer expected outer_lists e.mine.last) given)) producer_ends
+                (subst (λ (os : List Thing). Ends (form_counted thy body (bind_others stobj locals os values)) (one_thing (all_held z.symbols (held_after outer expected outer_lists e.mine.last) given))) (sym things_are)
+                (subst (λ (os : List Thing). Ends (form_counted thy body (bind_others stobj locals things values)) (one_thing os)) (sym (outputs_returned outer z.symbols expected expected outer_lists e.mine.last given e.outputs (λ x h. h))) e.mine.ends)));
           })
           (did w base threaded limit thy ev el h f c mode outer body None expected
-          (record { suited_world = suited_world; runs = n; accepted = (of_with_local c mode scope formal expected object locals producer body accepted).1; formed = formed_body; suited = suited_body })
-          (bound locals vs variables) q (unmaking places_keeping d.to) (bind_others object locals things values)
+          (record { suited_world = suited_world; runs = n; accepted = (of_with_local c mode scope formal expected stobj locals producer body accepted).1; formed = formed_body; suited = suited_body })
+          (bound locals vs variables) q (unmaking places_keeping d.to) (bind_others stobj locals things values)
           (record {
             are = outer_are;
-            stands = stands_less w outer scope q.stobjs (unmaking places_keeping d.to).stobjs (λ x i. body_objects c scope object locals vs variables d.outputs x i) stands_q;
+            stands = stands_less w outer scope q.stobjs (unmaking places_keeping d.to).stobjs (λ x i. body_objects c scope stobj locals vs variables d.outputs x i) stands_q;
             same = moved.same;
-            sound = sound_less w base outer scope u.symbols q.stobjs (λ x i. body_objects c scope object locals vs variables d.outputs x i) sound_q;
+            sound = sound_less w base outer scope u.symbols q.stobjs (λ x i. body_objects c scope stobj locals vs variables d.outputs x i) sound_q;
             lists = outer_lists;
-            kin = kin_less w base itself outer scope u.symbols q.stobjs outer_lists (λ x i. body_objects c scope object locals vs variables d.outputs x i) kin_q;
+            kin = kin_less w base itself outer scope u.symbols q.stobjs outer_lists (λ x i. body_objects c scope stobj locals vs variables d.outputs x i) kin_q;
             named = outer_named;
           }))
 
-    -- an outcome without the local object
+    -- an outcome without the local stobj
     unmade : (D : List (Shown ℕ) → State ℕ → Type 0) (p : Outcome ℕ) → IfGives D p → IfGives (λ vs z. (u : State ℕ) × (z ≡ unmaking lists_keeping u) × D vs u) (with_state (unmaking lists_keeping) p)
     unmade D (Gives vs u) m = (u, refl, m)
     unmade D (Stops stop origin u) m = tt
     unmade D Unknown m = m
 
     pub follows_local : IfGives (Mine w base scope s (form_counted thy whole values))
-        (then_with (counting limit s (with_fresh (on_lists w threaded base.table.packages limit) ev object (Some l) producer variables)) (λ given after. ev body (bound locals given variables) after))
+        (then_with (counting limit s (with_fresh (on_lists w threaded base.table.packages limit) ev stobj (Some l) producer variables)) (λ given after. ev body (bound locals given variables) after))
     follows_local =
         gives_then (λ vs z. (u : State ℕ) × (z ≡ unmaking lists_keeping u) × Did w base inner (name_kinds c locals) with_it inner_t logic vs u) (Mine w base scope s (form_counted thy whole values))
-        (counting limit s (with_fresh (on_lists w threaded base.table.packages limit) ev object (Some l) producer variables)) (λ given after. ev body (bound locals given variables) after)
-        (gives_counting (λ vs z. (u : State ℕ) × (z ≡ unmaking lists_keeping u) × Did w base inner (name_kinds c locals) with_it inner_t logic vs u) limit s (with_fresh (on_lists w threaded base.table.packages limit) ev object (Some l) producer variables)
-        (unmade (Did w base inner (name_kinds c locals) with_it inner_t logic) (ev producer ((object, Stobj object) ∷ variables) with_it)
+        (counting limit s (with_fresh (on_lists w threaded base.table.packages limit) ev stobj (Some l) producer variables)) (λ given after. ev body (bound locals given variables) after)
+        (gives_counting (λ vs z. (u : State ℕ) × (z ≡ unmaking lists_keeping u) × Did w base inner (name_kinds c locals) with_it inner_t logic vs u) limit s (with_fresh (on_lists w threaded base.table.packages limit) ev stobj (Some l) producer variables)
+        (unmade (Did w base inner (name_kinds c locals) with_it inner_t logic) (ev producer ((stobj, StobjNamed stobj) ∷ variables) with_it)
         (did w base threaded limit thy ev el h f c mode inner producer None (name_kinds c locals)
-        (record { suited_world = suited_world; runs = n; accepted = (of_with_local c mode scope formal expected object locals producer body accepted).0; formed = formed_producer; suited = suited_producer })
-        ((object, Stobj object) ∷ variables) with_it inner_t ((object, made) ∷ values)
+        (record { suited_world = suited_world; runs = n; accepted = (of_with_local c mode scope formal expected stobj locals producer body accepted).0; formed = formed_producer; suited = suited_producer })
+        ((stobj, StobjNamed stobj) ∷ variables) with_it inner_t ((stobj, made) ∷ values)
         (record {
-          are = local_variables c scope object variables named_object stage.are;
-          stands = stands_new w c scope object l s.stobjs t.stobjs stage.stands (new_objects_stand.fields (layout_of w object));
+          are = local_variables c scope stobj variables named_object stage.are;
+          stands = stands_new w c scope stobj l s.stobjs t.stobjs stage.stands (new_stobjs_stand.fields (layout_of w stobj));
           same = (let same : AreSame (one_more_call s) (one_more_call t) = counted_same w s t stage.same in record { symbols = same.symbols; calls = same.calls; outer = same.outer });
           sound = inner_sound;
           lists = inner_lists;

@@ -1,4 +1,4 @@
--- Forms in order: parts and bindings that change no object, and the actuals of a call.
+-- Forms in order: parts and bindings that change no stobj, and the actuals of a call.
 use Rattle.std.proofs.Common.{◌≡◌, ℕ, List, [], ◌∷◌, ◌++◌, length, false, Some, None, refl, sym, ap, ◌∙◌, subst, arith}
 use Rattle.std.specs.Prelude.{◌≢◌}
 use Rattle.std.specs.Option.{option_map_or}
@@ -14,23 +14,23 @@ use Rattle.model_terms.specs.Worlds.{World, Out, Ordinary, Scope}
 use Rattle.model_terms.specs.Worlds as worlds
 use Rattle.model_terms.specs.Classes as classes
 use Rattle.model_terms.specs.Classes.{has, congruent, all_congruent}
-use Rattle.model_terms.specs.Outputs.{object_actuals}
+use Rattle.model_terms.specs.Outputs.{stobj_actuals}
 use Rattle.model_terms.specs.Sites.{here, one_ordinary}
 use Rattle.model_terms.specs.Nested.{stands_for}
-use Rattle.model_eval.specs.Outcomes.{Shown, Plain, Stobj, StateOf, State, Outcome, Gives}
+use Rattle.model_eval.specs.Outcomes.{Shown, Plain, StobjNamed, StateOf, State, Outcome, Gives}
 use Rattle.model_eval.specs.PlacesKeeping.{Store}
-use Rattle.model_eval.specs.Scopes.{Variables, variable_in, single, list_of}
+use Rattle.model_eval.specs.Variables.{Variables, variable_in, single, list_of}
 use Rattle.model_eval.specs.Evaluated.{Evaluator, EvaluatorOf, in_order}
 use Rattle.model_logic.specs.Logic.{Theory, Thing, Values, value_in, found, form_value, form_values}
 use Rattle.model_accepted.specs.Threaded.{IsFormed, AreFormed, IsThreaded}
-use Rattle.model_accepted.specs.Scopes.{IsStobj, AreVariables, AreOutputs}
+use Rattle.model_accepted.specs.StobjScopes.{IsStobj, AreVariables, AreOutputs}
 use Rattle.model_in_place.specs.Calls.{names_in}
 use Rattle.model_accepted.specs.Accepted.{Accepted, PartsAccepted, ActualsAccepted}
 use Rattle.model_accepted.proofs.AcceptLemmas.{s1, not_false}
 use Rattle.model_in_place.proofs.CallMeeting.{on_lists, Meets}
 use Rattle.model_in_place.proofs.PartMeeting.{AreActuals, IsActual, actual_is, append_nothing, one_there, both_hold}
 use Rattle.model_follows.specs.Costs.{Counted, caller, form_counted, Ends}
-use Rattle.model_follows.specs.Worlds.{IsSuited, AreSuited}
+use Rattle.model_follows.specs.FollowedWorlds.{IsSuited, AreSuited}
 use Rattle.model_follows.specs.Follows.{one_thing, KnowsShown, KnowsAll, table_of, IfGives}
 use Rattle.model_follows.proofs.CostLemmas.{costs_nothing, ends_more}
 use Rattle.model_follows.proofs.ThingLemmas.{AllIn, outputs_in, shown_stays, things_stay}
@@ -38,7 +38,7 @@ use Rattle.model_follows.proofs.HeldThings.{Ground, Held, held, all_held, itself
 use Rattle.model_follows.proofs.FormalThings.{AreSeen}
 use Rattle.model_follows.proofs.Following.{Suited, gives_map, gives_then, unchanged, Mine, Stage, Follows, Did, did, quiet_after, mine_before}
 
--- a part changes no object: it gives none, or it is a variable
+-- a part changes no stobj: it gives none, or it is a variable
 abbrev pub AreQuiet : List Out → Cores → Type 0
 AreQuiet [] forms = Unit {0}
 AreQuiet (k ∷ ks) none = Unit {0}
@@ -53,7 +53,7 @@ module _ (w : World) (base : Ground) (threaded : IsThreaded w) (limit : ℕ) (sy
   abbrev pub book : Theory
   book = record { world = w; packages = base.table.packages; symbols = symbols }
 
-  -- what is the same in a later state, where no object has changed
+  -- what is the same in a later state, where no stobj has changed
   pub record IsQuiet (scope : Scope) (s u : State ℕ) (before after : Held) : Type 0 where
     pub grown : Extends (table_of base.table.packages s.symbols) (table_of base.table.packages u.symbols)
     pub lists : (x : ℕ) → IsStobj scope x → list_of u.stobjs x ≡ list_of s.stobjs x
@@ -78,7 +78,7 @@ module _ (w : World) (base : Ground) (threaded : IsThreaded w) (limit : ℕ) (sy
   quiet_things scope s u before after vs q a k = things_stay (table_of base.table.packages s.symbols) (table_of base.table.packages u.symbols) q.grown scope vs before after a k q.same
 
   -- a variable in L
-  pub variable_ends : (scope : Scope) (form : Core) (variables : Variables ℕ) (s : State ℕ) (t : StateOf (Store ℕ)) (values : Values) (stage : Stage w base scope variables s t values) (x : ℕ) → form ≡ Var x → IsStobj scope x → variable_in by_number variables x ≡ Stobj x
+  pub variable_ends : (scope : Scope) (form : Core) (variables : Variables ℕ) (s : State ℕ) (t : StateOf (Store ℕ)) (values : Values) (stage : Stage w base scope variables s t values) (x : ℕ) → form ≡ Var x → IsStobj scope x → variable_in by_number variables x ≡ StobjNamed x
       → Ends (form_counted book form values) (stage.lists x)
   unfolding form_value
   variable_ends scope form variables s t values stage x e i shown =
@@ -90,9 +90,9 @@ module _ (w : World) (base : Ground) (threaded : IsThreaded w) (limit : ℕ) (sy
   plain_held scope symbols before after [] a = refl
   plain_held scope symbols before after (Plain o ∷ []) a = refl
   plain_held scope symbols before after (Plain o ∷ (v ∷ vs)) a = absurd a.1
-  plain_held scope symbols before after (Stobj x ∷ vs) a = absurd a.0
+  plain_held scope symbols before after (StobjNamed x ∷ vs) a = absurd a.0
 
-  -- a part gave values and changed no object
+  -- a part gave values and changed no stobj
   record IsPart (scope : Scope) (variables : Variables ℕ) (values : Values) (kind : Out) (form : Core) (s : State ℕ) (t : StateOf (Store ℕ)) (before : Held) (vs : List (Shown ℕ)) (u : State ℕ) : Type 0 where
     outputs : AreOutputs scope (kind ∷ []) vs
     known : KnowsAll (length u.symbols) vs
@@ -109,7 +109,7 @@ module _ (w : World) (base : Ground) (threaded : IsThreaded w) (limit : ℕ) (sy
         (vs all : List (Shown ℕ)) (u : State ℕ) (v : StateOf (Store ℕ)) → AreOutputs scope kinds vs → all ≡ done ++ vs → (stage : Stage w base scope variables u v values) → IsQuiet scope s u lists stage.lists → KnowsAll (length u.symbols) vs
         → IfGives (Mine w base scope u (logic (before ++ all_held u.symbols stage.lists vs))) (go all u)
 
-    -- a part, which changes no object
+    -- a part, which changes no stobj
     part_quiet : (kind : Out) (form : Core) (s : State ℕ) (t : StateOf (Store ℕ)) → Accepted c mode scope form None (kind ∷ []) → IsFormed c form → IsSuited w (length base.table.symbols) form
         → AreQuiet (kind ∷ []) (more form none) → (stage : Stage w base scope variables s t values) → IfGives (IsPart scope variables values kind form s t stage.lists) (ev form variables s)
     unfolding quiet_after
@@ -130,7 +130,7 @@ module _ (w : World) (base : Ground) (threaded : IsThreaded w) (limit : ℕ) (sy
       where
         of_value : (v : Shown ℕ) → v ≡ variable_in by_number variables x → Did w base scope (worlds.Stobj x ∷ []) s t (form_counted book form values) (v ∷ []) s → IsPart scope variables values (worlds.Stobj x) form s t stage.lists (v ∷ []) s
         of_value (Plain o) e d = absurd d.outputs.0
-        of_value (Stobj y) e d = record {
+        of_value (StobjNamed y) e d = record {
           outputs = d.outputs;
           known = d.mine.known;
           beside = t;
@@ -138,7 +138,7 @@ module _ (w : World) (base : Ground) (threaded : IsThreaded w) (limit : ℕ) (sy
           quiet = quiet_self scope s stage.lists;
           ends =
               subst (λ (z : ℕ). Ends (form_counted book form values) (stage.lists z)) (sym d.outputs.0.0)
-              (variable_ends scope form variables s t values stage x q.0 d.outputs.0.1 (sym e ∙ ap (λ (z : ℕ). Stobj z) d.outputs.0.0));
+              (variable_ends scope form variables s t values stage x q.0 d.outputs.0.1 (sym e ∙ ap (λ (z : ℕ). StobjNamed z) d.outputs.0.0));
         }
 
         by_value : (a : Outcome ℕ) → a ≡ Gives (variable_in by_number variables x ∷ []) s → IfGives (Did w base scope (worlds.Stobj x ∷ []) s t (form_counted book form values)) a
@@ -233,7 +233,7 @@ module _ (w : World) (base : Ground) (threaded : IsThreaded w) (limit : ℕ) (sy
             (in_order (on_lists w threaded base.table.packages limit) ev forms variables (done ++ single by_number vs ∷ []) go u)
         next rest [] u d = absurd d.outputs
         next rest (x ∷ (y ∷ ys)) u d = absurd d.outputs.1
-        next rest (Stobj x ∷ []) u d = absurd d.outputs.0
+        next rest (StobjNamed x ∷ []) u d = absurd d.outputs.0
         next rest (Plain o ∷ []) u d =
             let thing : Thing = held u.symbols d.stage.lists (Plain o) in
             gives_map (Mine w base scope u (λ budget nest start. form_values book budget (caller book budget nest) forms values (before ++ thing ∷ []) (λ os calls. logic os budget nest calls) start)) _
@@ -251,22 +251,22 @@ module _ (w : World) (base : Ground) (threaded : IsThreaded w) (limit : ℕ) (sy
         let actual : IsActual w threaded base.table.packages limit ev el h c mode scope suited_world.suits n variables are o form
         = actual_is w threaded base.table.packages limit ev el h c mode scope suited_world.suits n variables are o form (not_false (option_map_or (λ x. stands_for c scope x o) (variable form) false) (s1 c mode (here form scope (Some o) _) n p.0.0)) in
         let thing : Thing = stage.lists actual.name in
-        let first : ev form variables s ≡ Gives (Stobj actual.name ∷ []) s
+        let first : ev form variables s ≡ Gives (StobjNamed actual.name ∷ []) s
         = ap (λ (f : Core). ev f variables s) actual.is ∙ (h.of_lists actual.name variables s ∙ ap (λ (v : Shown ℕ). Gives (v ∷ []) s) actual.shown) in
         rw first
         (gives_map (Mine w base scope s (λ budget nest start. form_values book budget (caller book budget nest) forms values (before ++ thing ∷ []) (λ os calls. logic os budget nest calls) start)) _
-        (in_order (on_lists w threaded base.table.packages limit) ev forms variables (done ++ Stobj actual.name ∷ []) go s)
+        (in_order (on_lists w threaded base.table.packages limit) ev forms variables (done ++ StobjNamed actual.name ∷ []) go s)
         (λ ws z m. mine_before w base scope s s _ _ ws z (Extends-self (table_of base.table.packages s.symbols)) (λ r e. ends_more book form forms values before logic thing r (variable_ends scope form variables s t values stage actual.name actual.is actual.in_scope actual.shown) e) m)
-        (follows_actuals are ins forms (done ++ Stobj actual.name ∷ []) (before ++ thing ∷ []) go logic s t p.1 formed.1 suited.1 fewer stage
+        (follows_actuals are ins forms (done ++ StobjNamed actual.name ∷ []) (before ++ thing ∷ []) go logic s t p.1 formed.1 suited.1 fewer stage
         (λ us all z r a seen same stage_z quiet_z known.
         subst (λ (os : List Thing). IfGives (Mine w base scope z (logic os)) (go all z))
-        (ap (λ (q : Thing). before ++ q ∷ all_held z.symbols stage_z.lists us) (quiet_thing scope s z stage.lists stage_z.lists (Stobj actual.name) quiet_z (actual.in_scope, tt) tt)
+        (ap (λ (q : Thing). before ++ q ∷ all_held z.symbols stage_z.lists us) (quiet_thing scope s z stage.lists stage_z.lists (StobjNamed actual.name) quiet_z (actual.in_scope, tt) tt)
         ∙ sym (append_assoc before (thing ∷ []) (all_held z.symbols stage_z.lists us)))
-        (k (Stobj actual.name ∷ us) all z r
+        (k (StobjNamed actual.name ∷ us) all z r
         (record {
           arguments = ((actual.in_scope, suited_world.suits.layouts o actual.name actual.alike), a.arguments);
-          there = one_there form actual.name (object_actuals ins forms) (names_in us) actual.is a.there;
+          there = one_there form actual.name (stobj_actuals ins forms) (names_in us) actual.is a.there;
           congruent_ones = both_hold (congruent c o actual.name) (all_congruent c (classes.stobjs ins) (names_in us)) actual.alike a.congruent_ones;
         })
         (suited_world.seen.alike o actual.name actual.alike, seen)
-        (same ∙ append_assoc done (Stobj actual.name ∷ []) us) stage_z quiet_z (tt, known)))))
+        (same ∙ append_assoc done (StobjNamed actual.name ∷ []) us) stage_z quiet_z (tt, known)))))

@@ -8,15 +8,15 @@ use Rattle.model_prims.specs.Kinds.{by_name}
 use Rattle.model_prims.specs.Lists.{element}
 use Rattle.model_terms.specs.Worlds.{Out, Scope}
 use Rattle.model_eval.specs.Outcomes.{Shown}
-use Rattle.model_logic.specs.Logic.{Thing, elements}
+use Rattle.model_logic.specs.Logic.{Thing, element_values}
 use Rattle.model_logic.specs.LogicFunctions.{as_list}
-use Rattle.model_accepted.specs.Scopes.{AreOutputs}
+use Rattle.model_accepted.specs.StobjScopes.{AreOutputs}
 use Rattle.model_follows.specs.Follows.{one_thing}
 use Rattle.model_follows.proofs.HeldThings.{Held, all_held}
 
 -- ---- parts of a list
 
-elements_behind : (xs : List ℕ) (n : ℕ) (a d : Thing) → elements xs (n + 1) (Pair a d) ≡ elements xs n d
+elements_behind : (xs : List ℕ) (n : ℕ) (a d : Thing) → element_values xs (n + 1) (Pair a d) ≡ element_values xs n d
 elements_behind [] n a d = refl
 elements_behind (x ∷ xs) n a d = rw (not_zero n, back n) (ap (λ (os : List Thing). element by_name n d ∷ os) (elements_behind xs (n + 1) a d))
   where
@@ -26,7 +26,7 @@ elements_behind (x ∷ xs) n a d = rw (not_zero n, back n) (ap (λ (os : List Th
     back : (n : ℕ) → n + 1 - 1 ≡ n
     back n = omega arith
 
-pub elements_are : (xs : List ℕ) (os : List Thing) → length xs ≡ length os → elements xs 0 (as_list by_name os) ≡ os
+pub elements_are : (xs : List ℕ) (os : List Thing) → length xs ≡ length os → element_values xs 0 (as_list by_name os) ≡ os
 elements_are [] [] e = refl
 elements_are [] (o ∷ os) e = absurd (omega (arith, e))
 elements_are (x ∷ xs) [] e = absurd (omega (arith, e))

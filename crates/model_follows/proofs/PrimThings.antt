@@ -24,8 +24,8 @@ use Rattle.model_prims.proofs.KnownLemmas.{wanted_known}
 use Rattle.model_prims.proofs.GivenLemmas.{gives_known}
 use Rattle.model_prims.proofs.FollowLemmas.{follows_logic}
 use Rattle.model_terms.specs.Worlds.{World, Ordinary, Scope}
-use Rattle.model_eval.specs.Outcomes.{Shown, Plain, Stobj}
-use Rattle.model_eval.specs.Scopes.{ordinary}
+use Rattle.model_eval.specs.Outcomes.{Shown, Plain, StobjNamed}
+use Rattle.model_eval.specs.Variables.{ordinary}
 use Rattle.model_logic.specs.Logic.{Thing}
 use Rattle.model_in_place.specs.Calls.{AreArguments}
 use Rattle.model_accepted.proofs.AcceptLemmas.{true_false}
@@ -104,19 +104,19 @@ module _ (t : Table) (is : IsTable t) where
 abbrev AllPlain : List (Shown ℕ) → Type 0
 AllPlain [] = Unit {0}
 AllPlain (Plain o ∷ vs) = AllPlain vs
-AllPlain (Stobj x ∷ vs) = ⊥
+AllPlain (StobjNamed x ∷ vs) = ⊥
 
 plain_arguments : (w : World) (scope : Scope) (n : ℕ) (vs : List (Shown ℕ)) → AreArguments w scope (replicate n Ordinary) vs → AllPlain vs
 plain_arguments w scope zero [] a = tt
 plain_arguments w scope zero (v ∷ vs) a = absurd a
 plain_arguments w scope (suc n) [] a = absurd a
 plain_arguments w scope (suc n) (Plain o ∷ vs) a = plain_arguments w scope n vs a.1
-plain_arguments w scope (suc n) (Stobj x ∷ vs) a = absurd a.0
+plain_arguments w scope (suc n) (StobjNamed x ∷ vs) a = absurd a.0
 
 pub things_plain : (symbols : List QualifiedName) (lists : Held) (vs : List (Shown ℕ)) → AllPlain vs → all_held symbols lists vs ≡ map (form_of symbols) (ordinary vs)
 things_plain symbols lists [] a = refl
 things_plain symbols lists (Plain o ∷ vs) a = ap (λ (os : List Thing). form_of symbols o ∷ os) (things_plain symbols lists vs a)
-things_plain symbols lists (Stobj x ∷ vs) a = absurd a
+things_plain symbols lists (StobjNamed x ∷ vs) a = absurd a
 
 pub argument_named : (symbols : List QualifiedName) → symbol_at symbols nil ≡ nil_name → (os : List (Object ℕ)) (n : ℕ) → argument by_name (map (form_of symbols) os) n ≡ form_of symbols (argument by_number os n)
 argument_named symbols e [] n = ap Symbol (sym e)
@@ -135,7 +135,7 @@ argument_known n l (o ∷ os) h (suc k) = argument_known n l os h.1 k
 pub ordinary_known : (n : ℕ) (vs : List (Shown ℕ)) → KnowsAll n vs → KnowsEach n (ordinary vs)
 ordinary_known n [] h = tt
 ordinary_known n (Plain o ∷ vs) h = (h.0, ordinary_known n vs h.1)
-ordinary_known n (Stobj x ∷ vs) h = ordinary_known n vs h.1
+ordinary_known n (StobjNamed x ∷ vs) h = ordinary_known n vs h.1
 
 -- ---- a primitive on values
 

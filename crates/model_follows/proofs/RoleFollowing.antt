@@ -1,4 +1,4 @@
--- Each function of an object on its list, and in the logic.
+-- Each function of a stobj on its list, and in the logic.
 use Rattle.std.proofs.Common.{◌≡◌, ℕ, List, [], ◌∷◌, ◌++◌, map, length, Bool, true, false, refl, sym, ap, ◌∙◌, subst, arith}
 use Rattle.std.specs.Prelude.{◌&&◌, ◌||◌, nat_eq, pos}
 use Rattle.acl_base.specs.declared.layout.Test.{Test}
@@ -15,21 +15,21 @@ use Rattle.model_prims.proofs.KnownLemmas.{truth_known}
 use Rattle.model_lists.specs.Types.{meets}
 use Rattle.model_lists.specs.Lists.{StobjList, Value, Pairs, End, Item, size, item, with_item, resized, pairs_of, has_key, without_key, as_object}
 use Rattle.model_lists.specs.Layouts.{Layout, Scalar, Array, Hash, Children, NoField, Field, field_layout, every, recognizes, field_recognizes}
-use Rattle.model_lists.specs.Standing.{IsValue, IsPairs, HasFields}
+use Rattle.model_lists.specs.LiveLists.{IsValue, IsPairs, HasFields}
 use Rattle.model_lists.specs.Logical.{with_length, pair_with, without_pairs, keys_in}
 use Rattle.model_lists.specs.Logical as logical
-use Rattle.model_lists.specs.Generated.{Effect, Refuses, Reads, Writes, is_index, is_up_to, most_elements, may_be_key, when, reads, with_key, accessed, changed, measured, lengthened, value_or_nil, is_bound, hash_read, hash_looked_up, hash_put, hash_removed, hash_counted}
-use Rattle.model_lists.specs.Generated as made
+use Rattle.model_lists.specs.Effects.{Effect, Refuses, Reads, Writes, is_index, is_up_to, most_elements, may_be_key, when, reads, with_key, accessed, changed, measured, lengthened, value_or_nil, is_bound, hash_read, hash_looked_up, hash_put, hash_removed, hash_counted}
+use Rattle.model_lists.specs.Effects as made
 use Rattle.model_lists_laws.specs.Laws.{AreItems, HasInitials}
 use Rattle.model_lists_laws.proofs.LogicalLemmas.{is_logical}
 use Rattle.model_lists_laws.proofs.StandingLemmas.{IsField, field_of_layout}
 use Rattle.model_terms.specs.declared.role.Role.{Role}
 use Rattle.model_terms.specs.declared.role.Role.TheVariants as role
-use Rattle.model_eval.specs.Generated.{effect}
+use Rattle.model_eval.specs.GeneratedCalls.{effect}
 use Rattle.model_logic.specs.Logic.{Thing}
 use Rattle.model_logic.specs.LogicFunctions.{as_list, logic_access, logic_update, filling, logic_effect}
 use Rattle.model_accepted.proofs.AcceptLemmas.{both_true}
-use Rattle.model_follows.specs.Worlds.{LayoutSymbols, PairSymbols, ListSymbols, IsRow, IsHashed, SuitsLogic, before_object}
+use Rattle.model_follows.specs.FollowedWorlds.{LayoutSymbols, PairSymbols, ListSymbols, IsRow, IsHashed, SuitsLogic, before_stobj}
 use Rattle.model_follows.specs.Follows.{one_thing}
 use Rattle.model_follows.proofs.ThingLemmas.{list_known, pairs_known}
 use Rattle.model_follows.proofs.LayoutThings.{named_layout, field_layout_named, recognizes_named, field_recognizes_named}
@@ -93,7 +93,7 @@ module _ (f : ℕ → QualifiedName) (P : ℕ → Type 0) (n : IsNaming f P) (wh
 
   -- ---- scalars and arrays
 
-  goes_access : (layout : Layout ℕ) → field_layout fn whole ≡ layout → (os : List (Object ℕ)) → length os ≡ before_object role.Access layout → EachSymbols P os
+  goes_access : (layout : Layout ℕ) → field_layout fn whole ≡ layout → (os : List (Object ℕ)) → length os ≡ before_stobj role.Access layout → EachSymbols P os
       → Goes (logic_access by_name (named_layout f layout) fn (map NN os ++ (NN obj ∷ []))) (accessed by_number layout fn os l)
   unfolding accessed logic_access
   goes_access (Scalar t o) e [] c k =
@@ -116,7 +116,7 @@ module _ (f : ℕ → QualifiedName) (P : ℕ → Type 0) (n : IsNaming f P) (wh
   goes_access NoField e os c k = tt
   goes_access (Field first others) e os c k = tt
 
-  goes_update : (layout : Layout ℕ) → field_layout fn whole ≡ layout → (os : List (Object ℕ)) → length os ≡ before_object role.Update layout → EachSymbols P os
+  goes_update : (layout : Layout ℕ) → field_layout fn whole ≡ layout → (os : List (Object ℕ)) → length os ≡ before_stobj role.Update layout → EachSymbols P os
       → Goes (logic_update by_name (named_layout f layout) fn (map NN os ++ (NN obj ∷ []))) (changed by_number layout fn os l)
   unfolding changed logic_update
   goes_update (Scalar t o) e [] c k = absurd (omega (arith, c))
@@ -317,7 +317,7 @@ module _ (f : ℕ → QualifiedName) (P : ℕ → Type 0) (n : IsNaming f P) (wh
   named_field : (layout : Layout ℕ) → field_layout fn whole ≡ layout → field_layout fn (named_layout f whole) ≡ named_layout f layout
   named_field layout e = field_layout_named f fn whole ∙ ap (named_layout f) e
 
-  pub goes_role : (r : Role) (layout : Layout ℕ) → field_layout fn whole ≡ layout → SuitsLogic r layout → (os : List (Object ℕ)) → length os ≡ before_object r layout → EachSymbols P os
+  pub goes_role : (r : Role) (layout : Layout ℕ) → field_layout fn whole ≡ layout → SuitsLogic r layout → (os : List (Object ℕ)) → length os ≡ before_stobj r layout → EachSymbols P os
       → Goes (logic_effect by_name r (named_layout f whole) fn (role_args r (map NN os) (NN obj))) (effect by_number r layout fn os l)
   unfolding effect logic_effect
   goes_role role.Recognizer layout e s [] c k = (

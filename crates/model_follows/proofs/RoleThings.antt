@@ -1,4 +1,4 @@
--- The arguments of the functions of an object in the logic, and what is known of a field.
+-- The arguments of the functions of a stobj in the logic, and what is known of a field.
 use Rattle.std.proofs.Common.{◌≡◌, ℕ, zero, suc, List, [], ◌∷◌, ◌++◌, Bool, true, false}
 use Rattle.std.specs.Prelude.{◌&&◌}
 use Rattle.model_objects.specs.Object.{Object}
@@ -9,7 +9,7 @@ use Rattle.model_lists_laws.specs.Laws.{HasInitials}
 use Rattle.model_terms.specs.declared.role.Role.{Role}
 use Rattle.model_terms.specs.declared.role.Role.TheVariants as role
 use Rattle.model_logic.specs.Logic.{Thing}
-use Rattle.model_follows.specs.Worlds.{LayoutSymbols}
+use Rattle.model_follows.specs.FollowedWorlds.{LayoutSymbols}
 
 abbrev pub EachSymbols : (ℕ → Type 0) → List (Object ℕ) → Type 0
 EachSymbols P [] = Unit {0}

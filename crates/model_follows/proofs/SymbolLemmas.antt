@@ -9,10 +9,10 @@ use Rattle.model_prims.specs.Kinds.{by_name, is_nil}
 use Rattle.model_lists.specs.Layouts.{Layout}
 use Rattle.model_terms.specs.Cores.{Core, Cores, Reached, Var, Const, If, Let, Mv, MvLet, StobjLet, WithLocal, MustBeEqual, Call, none, more, reached, reached_from, variable}
 use Rattle.model_terms.specs.Worlds.{World, Definition, Function, definition, Primitive, Defined, Macro, Constant, Concrete, Generated, Abstract, OfAbstract, Named, Signed}
-use Rattle.model_eval.specs.Worlds.{stobj_layout}
+use Rattle.model_eval.specs.StobjLayouts.{stobj_layout}
 use Rattle.model_eval.specs.Keeping.{Loan}
 use Rattle.model_logic.specs.LogicFunctions.{logic_generated}
-use Rattle.model_logic.specs.Logic.{Theory, Thing, Values, Found, then_found, found, bind, bind_others, elements, parts_for, Caller, spending, creator_of, index_value, with_loan, logic_loans, with_children, put_loans, with_parent, form_value, form_values, defined_value, logic_of_abstract, call_within, CallEndsWith}
+use Rattle.model_logic.specs.Logic.{Theory, Thing, Values, Found, then_found, found, bind, bind_others, element_values, parts_for, Caller, spending, creator_of, index_value, with_loan, logic_loans, with_children, put_loans, with_parent, form_value, form_values, defined_value, logic_of_abstract, call_within, CallEndsWith}
 use Rattle.model_accepted.specs.Threaded.{layout_of}
 use Rattle.model_follows.specs.Follows.{table_of}
 use Rattle.model_follows.specs.Corresponding.{theory_with}
@@ -65,7 +65,7 @@ module _ (w : World) (base : Table) (first second : List QualifiedName) (one : E
   index_alike (Mv parts) values k = refl
   index_alike (MvLet names bound body) values k = refl
   index_alike (StobjLet names bound vars producer consumer) values k = refl
-  index_alike (WithLocal object names producer body) values k = refl
+  index_alike (WithLocal stobj names producer body) values k = refl
   index_alike (MustBeEqual logic exec) values k = refl
   index_alike (Call f actuals) values k = refl
 
@@ -90,7 +90,7 @@ module _ (w : World) (base : Table) (first second : List QualifiedName) (one : E
   loan_alike x (Mv parts) values loans k = refl
   loan_alike x (MvLet names bound body) values loans k = refl
   loan_alike x (StobjLet names bound vars producer consumer) values loans k = refl
-  loan_alike x (WithLocal object names producer body) values loans k = refl
+  loan_alike x (WithLocal stobj names producer body) values loans k = refl
   loan_alike x (MustBeEqual logic exec) values loans k = refl
   loan_alike x (Call f none) values loans k = refl
   loan_alike x (Call f (more p none)) values loans k = from_alike x f None p values loans refl
@@ -118,7 +118,7 @@ module _ (w : World) (base : Table) (first second : List QualifiedName) (one : E
       same_form (Let names forms body) values m k = same_forms forms values [] _ _ (λ os z. same_form body (bind names os values) z k.1) m k.0
       same_form (Mv parts) values m k = same_forms parts values [] _ _ (λ os z. refl) m k
       same_form (MvLet names form body) values m k =
-          same_then _ _ _ _ (same_form form values m k.0) (λ v z. same_form body (bind names (elements names 0 v) values) z k.1)
+          same_then _ _ _ _ (same_form form values m k.0) (λ v z. same_form body (bind names (element_values names 0 v) values) z k.1)
       same_form (StobjLet names forms vars producer consumer) values m k =
           let after : (List (Loan QualifiedName) → Option Found) = λ loans.
           spending budget (length loans) m (λ x. then_found (form_value b1 budget call producer (with_children loans values) x) (λ v y. spending budget (length (put_loans vars loans)) y
@@ -129,10 +129,10 @@ module _ (w : World) (base : Table) (first second : List QualifiedName) (one : E
           same_then _ _ _ _ (same_form producer (with_children loans values) x k.1) (λ v y.
           same_spending budget (length (put_loans vars loans)) y _ _ (λ z.
           same_form consumer (bind vars (parts_for vars v) [] ++ with_parent (put_loans vars loans) (bind vars (parts_for vars v) []) values) z k.2)))
-      same_form (WithLocal object names producer body) values m k =
-          same_then _ _ _ _ (c (creator_of (definition w object)) [] m) (λ l z.
-          same_then _ _ _ _ (same_form producer ((object, l) ∷ values) z k.0) (λ v y.
-          same_form body (bind_others object names (elements names 0 v) values) y k.1))
+      same_form (WithLocal stobj names producer body) values m k =
+          same_then _ _ _ _ (c (creator_of (definition w stobj)) [] m) (λ l z.
+          same_then _ _ _ _ (same_form producer ((stobj, l) ∷ values) z k.0) (λ v y.
+          same_form body (bind_others stobj names (element_values names 0 v) values) y k.1))
       same_form (MustBeEqual logic exec) values m k = same_form logic values m k
       same_form (Call f actuals) values m k = same_forms actuals values [] _ _ (c f) m k
 
@@ -150,7 +150,7 @@ module _ (w : World) (base : Table) (first second : List QualifiedName) (one : E
     same_defined go end h (Some (Macro name formals body)) args m k = refl
     same_defined go end h (Some (Constant name value)) args m k = refl
     same_defined go end h (Some (Concrete d class)) args m k = refl
-    same_defined go end h (Some (Generated g)) args m k = ap (λ (l : Layout QualifiedName). found (logic_generated by_name g l args) m) (layout_same g.object)
+    same_defined go end h (Some (Generated g)) args m k = ap (λ (l : Layout QualifiedName). found (logic_generated by_name g l args) m) (layout_same g.stobj)
     same_defined go end h (Some (Abstract d)) args m k = refl
     same_defined go end h (Some (OfAbstract f)) args m k = h f.logic args m
     same_defined go end h (Some (Named name formals)) args m k = refl

@@ -13,11 +13,11 @@ use Rattle.model_prims.specs.Laws.{NamesTruth}
 use Rattle.model_lists.specs.Lists.{StobjList, Value, Pairs, End, Item, as_object}
 use Rattle.model_terms.specs.Worlds.{World, Out, Ordinary, Scope}
 use Rattle.model_terms.specs.Worlds as worlds
-use Rattle.model_eval.specs.Outcomes.{Shown, Plain, Stobj}
+use Rattle.model_eval.specs.Outcomes.{Shown, Plain, StobjNamed}
 use Rattle.model_logic.specs.Logic.{Thing}
-use Rattle.model_accepted.specs.Scopes.{IsStobj, AreOutputs}
+use Rattle.model_accepted.specs.StobjScopes.{IsStobj, AreOutputs}
 use Rattle.model_in_place.specs.Calls.{AreArguments}
-use Rattle.model_follows.specs.Worlds.{PairSymbols, ListSymbols, KnowsList}
+use Rattle.model_follows.specs.FollowedWorlds.{PairSymbols, ListSymbols, KnowsList}
 use Rattle.model_follows.specs.Follows.{thing_of_list, KnowsShown, KnowsAll}
 use Rattle.model_follows.proofs.HeldThings.{Held, held, all_held}
 
@@ -58,11 +58,11 @@ knows_nil t n = slice_get_within t.symbols nil _ n.at_nil
 pub knows_truth : (t : Table) → NamesTruth t → truth < length t.symbols
 knows_truth t n = slice_get_within t.symbols truth _ n.at_truth
 
--- ---- values that are objects of a scope
+-- ---- values that are stobjs of a scope
 
 abbrev pub IsIn : Scope → Shown ℕ → Type 0
 IsIn scope (Plain o) = Unit {0}
-IsIn scope (Stobj x) = IsStobj scope x
+IsIn scope (StobjNamed x) = IsStobj scope x
 
 abbrev pub AllIn : Scope → List (Shown ℕ) → Type 0
 AllIn scope [] = Unit {0}
@@ -73,25 +73,25 @@ outputs_in scope [] [] a = tt
 outputs_in scope [] (v ∷ vs) a = absurd a
 outputs_in scope (k ∷ ks) [] a = absurd a
 outputs_in scope (Ordinary ∷ ks) (Plain o ∷ vs) a = (tt, outputs_in scope ks vs a.1)
-outputs_in scope (Ordinary ∷ ks) (Stobj y ∷ vs) a = absurd a.0
+outputs_in scope (Ordinary ∷ ks) (StobjNamed y ∷ vs) a = absurd a.0
 outputs_in scope (worlds.Stobj x ∷ ks) (Plain o ∷ vs) a = absurd a.0
-outputs_in scope (worlds.Stobj x ∷ ks) (Stobj y ∷ vs) a = (subst (IsStobj scope) (sym a.0.0) a.0.1, outputs_in scope ks vs a.1)
+outputs_in scope (worlds.Stobj x ∷ ks) (StobjNamed y ∷ vs) a = (subst (IsStobj scope) (sym a.0.0) a.0.1, outputs_in scope ks vs a.1)
 
 pub arguments_in : (w : World) (scope : Scope) (kinds : List Out) (vs : List (Shown ℕ)) → AreArguments w scope kinds vs → AllIn scope vs
 arguments_in w scope [] [] a = tt
 arguments_in w scope [] (v ∷ vs) a = absurd a
 arguments_in w scope (k ∷ ks) [] a = absurd a
 arguments_in w scope (Ordinary ∷ ks) (Plain o ∷ vs) a = (tt, arguments_in w scope ks vs a.1)
-arguments_in w scope (Ordinary ∷ ks) (Stobj y ∷ vs) a = absurd a.0
+arguments_in w scope (Ordinary ∷ ks) (StobjNamed y ∷ vs) a = absurd a.0
 arguments_in w scope (worlds.Stobj x ∷ ks) (Plain o ∷ vs) a = absurd a.0
-arguments_in w scope (worlds.Stobj x ∷ ks) (Stobj y ∷ vs) a = (a.0.0, arguments_in w scope ks vs a.1)
+arguments_in w scope (worlds.Stobj x ∷ ks) (StobjNamed y ∷ vs) a = (a.0.0, arguments_in w scope ks vs a.1)
 
--- the lists of the objects among them are the same
+-- the lists of the stobjs among them are the same
 pub same_held : (symbols : List QualifiedName) (scope : Scope) (vs : List (Shown ℕ)) (before after : Held) → AllIn scope vs → ((x : ℕ) → IsStobj scope x → after x ≡ before x)
     → all_held symbols after vs ≡ all_held symbols before vs
 same_held symbols scope [] before after a k = refl
 same_held symbols scope (Plain o ∷ vs) before after a k = ap (λ (os : List Thing). form_of symbols o ∷ os) (same_held symbols scope vs before after a.1 k)
-same_held symbols scope (Stobj x ∷ vs) before after a k = rw (k x a.0, same_held symbols scope vs before after a.1 k) refl
+same_held symbols scope (StobjNamed x ∷ vs) before after a k = rw (k x a.0, same_held symbols scope vs before after a.1 k) refl
 
 -- ---- symbols that are added
 
@@ -113,24 +113,24 @@ module _ (old new : Table) (grown : Extends old new) where
 
   pub shown_stays : (v : Shown ℕ) → KnowsShown (length old.symbols) v → KnowsShown (length new.symbols) v
   shown_stays (Plain o) h = knows_stays o h
-  shown_stays (Stobj x) h = tt
+  shown_stays (StobjNamed x) h = tt
 
   pub all_stay : (vs : List (Shown ℕ)) → KnowsAll (length old.symbols) vs → KnowsAll (length new.symbols) vs
   all_stay [] h = tt
   all_stay (v ∷ vs) h = (shown_stays v h.0, all_stay vs h.1)
 
-  -- a value whose object, where it is one, has the list that it had
-  pub thing_stays : (v : Shown ℕ) (before after : Held) → KnowsShown (length old.symbols) v → ((x : ℕ) → v ≡ Stobj x → after x ≡ before x)
+  -- a value whose stobj, where it is one, has the list that it had
+  pub thing_stays : (v : Shown ℕ) (before after : Held) → KnowsShown (length old.symbols) v → ((x : ℕ) → v ≡ StobjNamed x → after x ≡ before x)
       → held new.symbols after v ≡ held old.symbols before v
   thing_stays (Plain o) before after h k = form_stays o h
-  thing_stays (Stobj x) before after h k = k x refl
+  thing_stays (StobjNamed x) before after h k = k x refl
 
   pub things_stay : (scope : Scope) (vs : List (Shown ℕ)) (before after : Held) → AllIn scope vs → KnowsAll (length old.symbols) vs → ((x : ℕ) → IsStobj scope x → after x ≡ before x)
       → all_held new.symbols after vs ≡ all_held old.symbols before vs
   things_stay scope [] before after a h k = refl
   things_stay scope (v ∷ vs) before after a h k =
-      let first : held new.symbols after v ≡ held old.symbols before v = thing_stays v before after h.0 (λ x e. k x (object_in x e a.0)) in
+      let first : held new.symbols after v ≡ held old.symbols before v = thing_stays v before after h.0 (λ x e. k x (stobj_in x e a.0)) in
       rw (first, things_stay scope vs before after a.1 h.1 k) refl
     where
-      object_in : (x : ℕ) → v ≡ Stobj x → IsIn scope v → IsStobj scope x
-      object_in x e i = subst (IsIn scope) e i
+      stobj_in : (x : ℕ) → v ≡ StobjNamed x → IsIn scope v → IsStobj scope x
+      stobj_in x e i = subst (IsIn scope) e i

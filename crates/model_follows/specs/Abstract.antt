@@ -1,4 +1,4 @@
--- The logic follows checked evaluation where objects may be abstract. What the admission of abstract objects proved is said of
+-- The logic follows checked evaluation where stobjs may be abstract. What the admission of abstract stobjs proved is said of
 -- values of the logic.
 use Rattle.std.specs.Prelude.{◌≡◌, ◌≢◌, ℕ, List, [], ◌∷◌, length, false, Option, Some, None}
 use Rattle.model_symbols.specs.Symbols.{QualifiedName, Table}
@@ -9,7 +9,7 @@ use Rattle.model_objects.specs.Named.{Symbols}
 use Rattle.model_prims.specs.Kinds.{by_name, is_nil}
 use Rattle.model_lists.specs.Lists.{as_object}
 use Rattle.model_lists.specs.Layouts.{initial}
-use Rattle.model_lists.specs.Standing.{HasFields}
+use Rattle.model_lists.specs.LiveLists.{HasFields}
 use Rattle.model_terms.specs.declared.rule.Mode.{Mode}
 use Rattle.model_terms.specs.declared.rule.Mode.TheVariants.{Logic}
 use Rattle.model_terms.specs.declared.role.AbstractRole.TheVariants as abstract_role
@@ -19,22 +19,22 @@ use Rattle.model_terms.specs.Classes as classes
 use Rattle.model_terms.specs.Classes.{has, repeats}
 use Rattle.model_terms.specs.Faults.{first_fault}
 use Rattle.model_eval.specs.Outcomes.{Shown, State}
-use Rattle.model_eval.specs.Scopes.{Variables, list_of}
-use Rattle.model_eval.specs.Worlds.{stobj_layout}
+use Rattle.model_eval.specs.Variables.{Variables, list_of}
+use Rattle.model_eval.specs.StobjLayouts.{stobj_layout}
 use Rattle.model_eval.specs.Checked.{checked}
 use Rattle.model_logic.specs.Logic.{Theory, Thing, Values, bind, seen, EndsWith, CallEndsWith}
 use Rattle.model_abstract.specs.Rules.{out_parts}
 use Rattle.model_abstract.specs.Corresponding.{CallHolds, HasPackage}
 use Rattle.model_eval_laws.specs.Scope.{names}
 use Rattle.model_accepted.specs.Threaded.{layout_of, IsFormed, Suits, IsExport, IsThreaded}
-use Rattle.model_accepted.specs.Scopes.{IsStobj, AreVariables, AreOutputs}
-use Rattle.model_follows.specs.Worlds.{IsSuited}
+use Rattle.model_accepted.specs.StobjScopes.{IsStobj, AreVariables, AreOutputs}
+use Rattle.model_follows.specs.FollowedWorlds.{IsSuited}
 use Rattle.model_follows.specs.Follows.{one_thing, KnowsAll, table_of, IsSound, AreFitting, LeavesUnreturned, IfGives}
 use Rattle.model_follows.specs.Held.{Ground, Held, all_held, ground_book, AreKin, itself, AreHeld, AreSeenIn, Lawful}
 
 -- ---- obligations over values
 
--- the arguments of a function with these inputs: ordinary ones in their order, and the object
+-- the arguments of a function with these inputs: ordinary ones in their order, and the stobj
 abbrev pub arguments_with : List Out → List Thing → Thing → List Thing
 arguments_with [] os a = []
 arguments_with (Ordinary ∷ ks) [] a = []
@@ -45,7 +45,7 @@ arguments_with (Stobj x ∷ ks) os a = a ∷ arguments_with ks os a
 abbrev pub IsWellFormed : Theory → AbstractDescriptor → Thing → Type 0
 IsWellFormed b d a = CallEndsWith b d.recognizer.logic (a ∷ []) (Symbol truth_name)
 
--- ordinary outputs are equal, and the objects correspond
+-- ordinary outputs are equal, and the stobjs correspond
 abbrev pub OutputsCorrespond : Theory → AbstractDescriptor → List Out → List Thing → List Thing → Type 0
 OutputsCorrespond b d [] [] [] = Unit {0}
 OutputsCorrespond b d [] [] (l ∷ ls) = ⊥
@@ -63,7 +63,7 @@ pub record ExportHolds (b : Theory) (d : AbstractDescriptor) (f : FunctionOfAbst
       → (e : Thing) × (l : Thing) × CallEndsWith b f.exec (arguments_with f.signature.ins os c) e × CallEndsWith b f.logic (arguments_with f.signature.ins os a) l
       × OutputsCorrespond b d f.signature.outs (out_parts b 0 f.signature.outs e) (out_parts b 0 f.signature.outs l) × (l ≡ one_thing (out_parts b 0 f.signature.outs l))
 
--- the same of a new object
+-- the same of a new stobj
 pub record CreatorHolds (b : Theory) (x : ℕ) (d : AbstractDescriptor) : Type 0 where
   pub made : Thing
   pub ends : CallEndsWith b d.creator.logic [] made
@@ -73,7 +73,7 @@ pub record CreatorHolds (b : Theory) (x : ℕ) (d : AbstractDescriptor) : Type 0
 
 pub record ObligationsInLogic (b : Theory) : Type 0 where
   pub creators : (x : ℕ) (d : AbstractDescriptor) → definition b.world x ≡ Some (Abstract d) → CreatorHolds b x d
-  pub exports : (x : ℕ) (d : AbstractDescriptor) (f : FunctionOfAbstract) → definition b.world x ≡ Some (OfAbstract f) → f.role ≡ abstract_role.Export → definition b.world f.object ≡ Some (Abstract d) → ExportHolds b d f
+  pub exports : (x : ℕ) (d : AbstractDescriptor) (f : FunctionOfAbstract) → definition b.world x ≡ Some (OfAbstract f) → f.role ≡ abstract_role.Export → definition b.world f.stobj ≡ Some (Abstract d) → ExportHolds b d f
 
 -- ---- worlds
 
@@ -90,18 +90,18 @@ abstract_of (Some (OfAbstract f)) = None
 abstract_of (Some (Named name formals)) = None
 abstract_of (Some (Signed name formals signature executable)) = None
 
--- an abstract object is seen through its descriptor
+-- an abstract stobj is seen through its descriptor
 abbrev pub abstract_ground : World → Table → List QualifiedName → Ground
 abstract_ground w base symbols = record { table = base; written = symbols; view = λ x. abstract_of (definition w x) }
 
--- a function of an abstract object has a logic function, which is of none itself
+-- a function of an abstract stobj has a logic function, which is of none itself
 pub record IsOfAbstract (w : World) (f : FunctionOfAbstract) : Type 0 where
   pub descriptor : AbstractDescriptor
-  pub object : definition w f.object ≡ Some (Abstract descriptor)
+  pub stobj : definition w f.stobj ≡ Some (Abstract descriptor)
   pub logic : (g : FunctionOfAbstract) → definition w f.logic ≡ Some (OfAbstract g) → ⊥
-  pub recognizer : f.role ≡ abstract_role.Recognizer → (f.logic ≡ descriptor.recognizer.logic) × (f.signature.ins ≡ Stobj f.object ∷ [])
+  pub recognizer : f.role ≡ abstract_role.Recognizer → (f.logic ≡ descriptor.recognizer.logic) × (f.signature.ins ≡ Stobj f.stobj ∷ [])
 
--- the exec function of an export is one of the foundation, which is concrete, and the object is returned once at most
+-- the exec function of an export is one of the foundation, which is concrete, and the stobj is returned once at most
 pub record IsExportOf (w : World) (base : Ground) (f : FunctionOfAbstract) (x : IsExport w f) (d : AbstractDescriptor) : Type 0 where
   pub suited : IsSuited w (length base.table.symbols) f.guard
   pub seen_in : AreSeenIn w base x.guard.world
@@ -116,7 +116,7 @@ pub record IsFollowedBeside (w : World) (base : Ground) (threaded : IsThreaded w
 
 -- ---- the law
 
--- the lists of L after a form, of which that of an object that is not returned stays
+-- the lists of L after a form, of which that of a stobj that is not returned stays
 pub record FollowedWith (w : World) (base : Ground) (scope : Scope) (expected : List Out) (form : Core) (values : Values) (s : State ℕ) (lists : Held) (given : List (Shown ℕ)) (u : State ℕ) : Type 0 where
   pub outputs : AreOutputs scope expected given
   pub unreturned : LeavesUnreturned scope expected s u

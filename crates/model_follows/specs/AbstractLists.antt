@@ -1,4 +1,4 @@
--- The logic follows checked evaluation where objects may be abstract, in the words of lists that correspond.
+-- The logic follows checked evaluation where stobjs may be abstract, in the words of lists that correspond.
 use Rattle.std.specs.Prelude.{◌≡◌, ◌≢◌, ℕ, List, length, true, false, Some, None}
 use Rattle.model_symbols.specs.Symbols.{QualifiedName, Table}
 use Rattle.model_symbols.specs.Growth.{Extends}
@@ -11,27 +11,27 @@ use Rattle.model_terms.specs.Worlds.{World, AbstractDescriptor, Abstract, defini
 use Rattle.model_terms.specs.Faults.{first_fault}
 use Rattle.model_terms.specs.Classes.{repeats}
 use Rattle.model_eval.specs.Outcomes.{Stobjs, State}
-use Rattle.model_eval.specs.Scopes.{Variables}
+use Rattle.model_eval.specs.Variables.{Variables}
 use Rattle.model_eval.specs.Checked.{checked}
 use Rattle.model_logic.specs.Logic.{Values}
 use Rattle.model_abstract.specs.Corresponding.{Correspond}
 use Rattle.model_eval_laws.specs.Scope.{names, is_among}
 use Rattle.model_accepted.specs.Threaded.{layout_of, IsFormed, Suits, IsThreaded}
-use Rattle.model_accepted.specs.Scopes.{IsStobj, AreVariables}
-use Rattle.model_follows.specs.Worlds.{IsSuited}
+use Rattle.model_accepted.specs.StobjScopes.{IsStobj, AreVariables}
+use Rattle.model_follows.specs.FollowedWorlds.{IsSuited}
 use Rattle.model_follows.specs.Follows.{table_of, IfGives}
 use Rattle.model_follows.specs.Held.{AreSeenIn}
 use Rattle.model_follows.specs.Corresponding.{Lists, theory_with, AreValues, Follow}
 use Rattle.model_follows.specs.SymbolLaw.{IsWritten}
 use Rattle.model_follows.specs.Abstract.{ObligationsInLogic, abstract_ground, IsFollowedBeside}
 
--- the objects are those of the scope, each once
+-- the stobjs are those of the scope, each once
 pub record AreLive (scope : Scope) (stobjs : Stobjs ℕ) : Type 0 where
   pub there : (x : ℕ) → IsStobj scope x → is_among x (names stobjs) ≡ true
   pub only : (x : ℕ) → is_among x (names stobjs) ≡ true → IsStobj scope x
   pub once : repeats (names stobjs) ≡ false
 
--- an abstract object has the layout of its foundation
+-- an abstract stobj has the layout of its foundation
 pub record AreLaidOut (w : World) : Type 0 where
   pub alike : (x : ℕ) (d : AbstractDescriptor) → definition w x ≡ Some (Abstract d) → layout_of w x ≡ layout_of w d.foundation
 

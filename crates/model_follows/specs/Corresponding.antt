@@ -1,4 +1,4 @@
--- The logic follows checked evaluation, in the words of lists that correspond: where no object is abstract.
+-- The logic follows checked evaluation, in the words of lists that correspond: where no stobj is abstract.
 use Rattle.std.specs.Prelude.{◌≡◌, ◌≢◌, ℕ, List, map, length, true, false, Some, None}
 use Rattle.model_symbols.specs.Symbols.{QualifiedName, Table, form_of}
 use Rattle.model_symbols.specs.Growth.{Extends}
@@ -14,30 +14,30 @@ use Rattle.model_terms.specs.Scopes.{kind_in}
 use Rattle.model_terms.specs.Faults.{first_fault}
 use Rattle.model_terms.specs.Classes as classes
 use Rattle.model_terms.specs.Classes.{has, repeats}
-use Rattle.model_eval.specs.Outcomes.{Shown, Plain, Stobj, Stobjs, State}
-use Rattle.model_eval.specs.Scopes.{Variables, variable_in, list_of}
+use Rattle.model_eval.specs.Outcomes.{Shown, Plain, StobjNamed, Stobjs, State}
+use Rattle.model_eval.specs.Variables.{Variables, variable_in, list_of}
 use Rattle.model_eval.specs.Checked.{checked}
 use Rattle.model_logic.specs.Logic.{Theory, Thing, Values, value_in, EndsWith}
 use Rattle.model_abstract.specs.Corresponding.{Correspond}
 use Rattle.model_eval_laws.specs.Scope.{names, is_among}
 use Rattle.model_accepted.specs.Threaded.{IsFormed, Suits, IsThreaded}
-use Rattle.model_accepted.specs.Scopes.{IsStobj, AreVariables}
-use Rattle.model_follows.specs.Worlds.{IsSuited, IsFollowed}
+use Rattle.model_accepted.specs.StobjScopes.{IsStobj, AreVariables}
+use Rattle.model_follows.specs.FollowedWorlds.{IsSuited, IsFollowed}
 use Rattle.model_follows.specs.Follows.{one_thing, KnowsShown, table_of, IfGives}
 
--- the lists of objects with symbols by name
+-- the lists of stobjs with symbols by name
 abbrev pub Lists : Type 0
 Lists = Stobjs QualifiedName
 
--- a value of C in the logic, where the objects have these lists
+-- a value of C in the logic, where the stobjs have these lists
 abbrev pub as_thing : List QualifiedName → Lists → Shown ℕ → Thing
 as_thing symbols lists (Plain o) = form_of symbols o
-as_thing symbols lists (Stobj x) = as_object by_name (list_of lists x)
+as_thing symbols lists (StobjNamed x) = as_object by_name (list_of lists x)
 
 abbrev pub theory_with : World → Table → List QualifiedName → Theory
 theory_with w base symbols = record { world = w; packages = base.packages; symbols = symbols }
 
--- the objects are those of the scope, each once, and concrete ones of the world
+-- the stobjs are those of the scope, each once, and concrete ones of the world
 pub record AreInScope (w : World) (scope : Scope) (stobjs : Stobjs ℕ) : Type 0 where
   pub there : (x : ℕ) → IsStobj scope x → is_among x (names stobjs) ≡ true
   pub only : (x : ℕ) → is_among x (names stobjs) ≡ true → IsStobj scope x
@@ -49,7 +49,7 @@ pub record AreValues (scope : Scope) (variables : Variables ℕ) (symbols : List
   pub known : (x : ℕ) (k : Out) → kind_in scope x ≡ Some k → KnowsShown (length symbols) (variable_in by_number variables x)
   pub same : (x : ℕ) (k : Out) → kind_in scope x ≡ Some k → value_in values x ≡ as_thing symbols lists (variable_in by_number variables x)
 
--- an object that is not returned has the list that it had
+-- a stobj that is not returned has the list that it had
 abbrev pub Leaves : Scope → List Out → Lists → Lists → Type 0
 Leaves scope expected lists last = (x : ℕ) → IsStobj scope x → has (classes.stobjs expected) x ≡ false → as_object by_name (list_of last x) ≡ as_object by_name (list_of lists x)
 

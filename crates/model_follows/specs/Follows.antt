@@ -1,4 +1,4 @@
--- What L gives beside what C gives, where no object is abstract: states and values of C as the logic has them.
+-- What L gives beside what C gives, where no stobj is abstract: states and values of C as the logic has them.
 use Rattle.std.specs.Prelude.{◌≡◌, ◌≢◌, ℕ, List, [], ◌∷◌, map, length, true, false, Some, None}
 use Rattle.model_objects.specs.Named.{Knows}
 use Rattle.model_symbols.specs.Symbols.{QualifiedName, Package, Table, form_of}
@@ -8,7 +8,7 @@ use Rattle.model_prims.specs.Kinds.{by_number, by_name}
 use Rattle.model_prims.specs.Laws.{NamesTruth}
 use Rattle.model_lists.specs.Lists.{StobjList, as_object}
 use Rattle.model_lists.specs.Layouts.{recognizes}
-use Rattle.model_lists.specs.Standing.{HasFields}
+use Rattle.model_lists.specs.LiveLists.{HasFields}
 use Rattle.model_terms.specs.declared.rule.Mode.{Mode}
 use Rattle.model_terms.specs.declared.rule.Mode.TheVariants.{Logic}
 use Rattle.model_terms.specs.Cores.{Core}
@@ -17,15 +17,15 @@ use Rattle.model_terms.specs.Scopes.{kind_in}
 use Rattle.model_terms.specs.Faults.{first_fault}
 use Rattle.model_terms.specs.Classes as classes
 use Rattle.model_terms.specs.Classes.{has}
-use Rattle.model_eval.specs.Outcomes.{Shown, Plain, Stobj, Stobjs, State, Outcome, Gives, Stops, Unknown}
-use Rattle.model_eval.specs.Scopes.{Variables, variable_in, list_of}
+use Rattle.model_eval.specs.Outcomes.{Shown, Plain, StobjNamed, Stobjs, State, Outcome, Gives, Stops, Unknown}
+use Rattle.model_eval.specs.Variables.{Variables, variable_in, list_of}
 use Rattle.model_eval.specs.Checked.{checked}
 use Rattle.model_logic.specs.Logic.{Theory, Thing, Values, value_in, EndsWith}
 use Rattle.model_logic.specs.LogicFunctions.{as_list}
 use Rattle.model_eval_laws.specs.Scope.{names, is_among}
 use Rattle.model_accepted.specs.Threaded.{layout_of, IsFormed, Suits, IsThreaded}
-use Rattle.model_accepted.specs.Scopes.{IsStobj, AreVariables, AreOutputs}
-use Rattle.model_follows.specs.Worlds.{KnowsList, IsSuited, IsFollowed}
+use Rattle.model_accepted.specs.StobjScopes.{IsStobj, AreVariables, AreOutputs}
+use Rattle.model_follows.specs.FollowedWorlds.{KnowsList, IsSuited, IsFollowed}
 
 -- ---- values of C as the logic has them
 
@@ -35,7 +35,7 @@ thing_of_list symbols l = form_of symbols (as_object by_number l)
 
 abbrev pub thing_of : List QualifiedName → Stobjs ℕ → Shown ℕ → Thing
 thing_of symbols stobjs (Plain o) = form_of symbols o
-thing_of symbols stobjs (Stobj x) = thing_of_list symbols (list_of stobjs x)
+thing_of symbols stobjs (StobjNamed x) = thing_of_list symbols (list_of stobjs x)
 
 abbrev pub things_of : List QualifiedName → Stobjs ℕ → List (Shown ℕ) → List Thing
 things_of symbols stobjs vs = map (thing_of symbols stobjs) vs
@@ -50,7 +50,7 @@ one_thing (v ∷ (u ∷ us)) = as_list by_name (v ∷ (u ∷ us))
 
 abbrev pub KnowsShown : ℕ → Shown ℕ → Type 0
 KnowsShown n (Plain o) = Knows n o
-KnowsShown n (Stobj x) = Unit {0}
+KnowsShown n (StobjNamed x) = Unit {0}
 
 abbrev pub KnowsAll : ℕ → List (Shown ℕ) → Type 0
 KnowsAll n [] = Unit {0}
@@ -59,7 +59,7 @@ KnowsAll n (v ∷ vs) = KnowsShown n v × KnowsAll n vs
 abbrev pub table_of : List Package → List QualifiedName → Table
 table_of packages symbols = record { packages = packages; symbols = symbols }
 
--- the symbols are those of a table that has grown from the book's, and the list of each object in scope has known symbols
+-- the symbols are those of a table that has grown from the book's, and the list of each stobj in scope has known symbols
 -- and is what its recognizer wants
 pub record IsSound (w : World) (base : Table) (scope : Scope) (symbols : List QualifiedName) (stobjs : Stobjs ℕ) : Type 0 where
   pub table : IsTable (table_of base.packages symbols)
@@ -75,7 +75,7 @@ pub record AreNamed (scope : Scope) (variables : Variables ℕ) (symbols : List 
 
 -- ---- outcomes
 
--- an object that is not among the outputs has the list that it had
+-- a stobj that is not among the outputs has the list that it had
 abbrev pub LeavesUnreturned : Scope → List Out → State ℕ → State ℕ → Type 0
 LeavesUnreturned scope expected s u = (x : ℕ) → IsStobj scope x → has (classes.stobjs expected) x ≡ false → list_of u.stobjs x ≡ list_of s.stobjs x
 
@@ -94,13 +94,13 @@ IfGives P (Gives values u) = P values u
 IfGives P (Stops stop origin u) = Unit {0}
 IfGives P Unknown = ⊥
 
--- each object in scope has a list, which has the fields of its layout
+-- each stobj in scope has a list, which has the fields of its layout
 pub record AreFitting (w : World) (scope : Scope) (stobjs : Stobjs ℕ) : Type 0 where
   pub known : (x : ℕ) → IsStobj scope x → is_among x (names stobjs) ≡ true
   pub fits : (x : ℕ) → IsStobj scope x → HasFields (layout_of w x) (list_of stobjs x)
 
 -- where checked evaluation of a form that was accepted ends with values, the logic's value of the form ends, and is those
--- values with their symbols by name; the lists of objects that are not returned stay
+-- values with their symbols by name; the lists of stobjs that are not returned stay
 pub record LogicFollows : Type 0 where
   pub follows : (w : World) (base : Table) → IsThreaded w → IsFollowed w (length base.symbols)
       → (symbols : List QualifiedName) → Extends base (record { packages = base.packages; symbols = symbols })

@@ -1,5 +1,5 @@
 pub mod Costs
-pub mod Worlds
+pub mod FollowedWorlds
 pub mod Follows
 pub mod Held
 pub mod Corresponding

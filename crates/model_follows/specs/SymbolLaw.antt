@@ -7,7 +7,7 @@ use Rattle.model_terms.specs.Cores.{Core, Cores, Var, Const, If, Let, Mv, MvLet,
 use Rattle.model_terms.specs.Worlds.{World, Function, Defined, definition}
 use Rattle.model_logic.specs.Logic.{Thing, CallEndsWith}
 use Rattle.model_accepted.specs.Threaded.{layout_of}
-use Rattle.model_follows.specs.Worlds.{LayoutSymbols}
+use Rattle.model_follows.specs.FollowedWorlds.{LayoutSymbols}
 use Rattle.model_follows.specs.Follows.{table_of}
 use Rattle.model_follows.specs.Corresponding.{theory_with}
 
@@ -21,7 +21,7 @@ unfoldable mutual
   KnowsForm n (Mv parts) = KnowsForms n parts
   KnowsForm n (MvLet names bound body) = KnowsForm n bound × KnowsForm n body
   KnowsForm n (StobjLet names bound vars producer consumer) = KnowsForms n bound × KnowsForm n producer × KnowsForm n consumer
-  KnowsForm n (WithLocal object names producer body) = KnowsForm n producer × KnowsForm n body
+  KnowsForm n (WithLocal stobj names producer body) = KnowsForm n producer × KnowsForm n body
   KnowsForm n (MustBeEqual logic exec) = KnowsForm n logic
   KnowsForm n (Call f actuals) = KnowsForms n actuals
 

@@ -28,7 +28,7 @@ pub fn calls_cost()
     ensures { CallsCost }
 {}
 
-/// What is asked of a world holds of one with an object, a child and a function that writes the child.
+/// What is asked of a world holds of one with a stobj, a child and a function that writes the child.
 #[tactic(auto, using(crate::proofs::ExampleLemmas::example_followed))]
 pub fn a_world_is_followed()
     ensures { IsExampleFollowed }
@@ -40,8 +40,8 @@ pub fn calls_end()
     ensures { CallsEnd }
 {}
 
-/// The same where objects may be abstract: in the logic an abstract object is an abstract list that corresponds to the list of
-/// checked evaluation, before and afterwards, where what the admission of the object proved holds of values.
+/// The same where stobjs may be abstract: in the logic an abstract stobj is an abstract list that corresponds to the list of
+/// checked evaluation, before and afterwards, where what the admission of the stobj proved holds of values.
 #[tactic(auto, using(crate::proofs::AbstractLemmas::logic_follows_abstract))]
 pub fn logic_follows_abstract()
     ensures { LogicFollowsAbstract }
@@ -53,7 +53,7 @@ pub fn symbols_no_matter()
     ensures { SymbolsNoMatter }
 {}
 
-/// The same where objects may be abstract, on lists that correspond, which correspond afterwards.
+/// The same where stobjs may be abstract, on lists that correspond, which correspond afterwards.
 #[tactic(auto, using(crate::proofs::AbstractListLemmas::follows_abstract_on_lists))]
 pub fn logic_follows_abstract_on_lists()
     ensures { LogicFollowsAbstractOnLists }

@@ -1,7 +1,7 @@
 -- Sessions and books that meet the statements; and what is held is what is printed.
 use Rattle.model_prims.specs.Rows.{table}
 use Rattle.model_headline.specs.Logic.{IsAsked}
-use Rattle.model_abstract_books_rows.proofs.AbstractLemmas.{abstract_objects, IsAmong, is_among}
+use Rattle.model_abstract_books_rows.proofs.AbstractLemmas.{abstract_stobjs, IsAmong, is_among}
 use Rattle.model_abstract_books.specs.Holding.{ObligationsHold}
 use Rattle.model_abstract_books.specs.Commands.{theory_of}
 use Rattle.model_abstract.specs.Corresponding.{Correspond}
@@ -10,8 +10,8 @@ use Rattle.std.proofs.Common.{arith, ◌≡◌, ℕ, [], ◌∷◌, ◌∙◌, r
 use Rattle.std.proofs.lemmas.List.{append-nil}
 use Rattle.model_symbols.specs.Growth.{AreDistinct}
 use Rattle.model_lists.specs.Lists.{StobjList}
-use Rattle.model_eval_alike.specs.Alike.{canonical_objects}
-use Rattle.model_eval.specs.Scopes.{list_of}
+use Rattle.model_eval_alike.specs.Alike.{canonical_stobjs}
+use Rattle.model_eval.specs.Variables.{list_of}
 use Rattle.model_lists.specs.Normal.{canonical}
 use Rattle.model_lists_laws.proofs.CanonicalLemmas.{canonical_lists}
 use Rattle.model_eval.specs.Outcomes.{Stobjs}
@@ -43,28 +43,28 @@ no_live : opening_session.stobjs ≡ []
 unfolding opening_session
 no_live = refl
 
--- ---- where a session begins no object is abstract, so all obligations hold there
+-- ---- where a session begins no stobj is abstract, so all obligations hold there
 
-none_abstract : abstract_objects opening_world ≡ []
+none_abstract : abstract_stobjs opening_world ≡ []
 unfolding opening_world table
 none_abstract = refl
 
-world_at_first : opening_session.standing.world ≡ opening_world
+world_at_first : opening_session.environment.world ≡ opening_world
 unfolding opening_session
 world_at_first = refl
 
-no_object : (x : ℕ) (d : AbstractDescriptor) → definition opening_session.standing.world x ≡ Some (Abstract d) → ⊥
+no_object : (x : ℕ) (d : AbstractDescriptor) → definition opening_session.environment.world x ≡ Some (Abstract d) → ⊥
 no_object x d e =
-    let found : IsAmong d (abstract_objects opening_world) = is_among opening_world x d (subst (λ (w : World). definition w x ≡ Some (Abstract d)) world_at_first e) in
+    let found : IsAmong d (abstract_stobjs opening_world) = is_among opening_world x d (subst (λ (w : World). definition w x ≡ Some (Abstract d)) world_at_first e) in
     subst (λ ds. IsAmong d ds) none_abstract found
 
-hold_at_first : ObligationsHold (theory_of opening_session.standing opening_session.symbols)
+hold_at_first : ObligationsHold (theory_of opening_session.environment opening_session.symbols)
 hold_at_first = record { hold = λ x d e. absurd (no_object x d e) }
 
 abbrev hold_in : Session → Type 0
-hold_in s = ObligationsHold (theory_of s.standing s.symbols)
+hold_in s = ObligationsHold (theory_of s.environment s.symbols)
 
-correspond_at_first : Correspond (theory_of opening_session.standing opening_session.symbols) opening_session.stobjs []
+correspond_at_first : Correspond (theory_of opening_session.environment opening_session.symbols) opening_session.stobjs []
 unfolding opening_session
 correspond_at_first = tt
 
@@ -78,7 +78,7 @@ asked = record {
 }
 
 abbrev canonical_of : Session → Stobjs ℕ
-canonical_of s = canonical_objects s.stobjs
+canonical_of s = canonical_stobjs s.stobjs
 
 abbrev list_at : Session → ℕ → StobjList ℕ
 list_at s x = canonical (list_of s.stobjs x)
@@ -92,13 +92,15 @@ are_met = record {
   writes = record { is = is_computed.is_written };
   made = ([], tt, refl);
   leaves = record { stands = λ h. record { same = none_canonical ∙ ap canonical_of (sym (unchanged opening_session)) } };
+  begins = record { same = none_canonical };
   memory = record {
+    stands = record { same = none_canonical };
     fewer = omega arith;
     limit = 0;
     within = omega arith;
-    lists = λ x. ap (λ (s : Session). list_at s x) (sym (unchanged_without_calls opening_session));
+    lists = λ x h. ap (λ (s : Session). list_at s x) (sym (unchanged_without_calls opening_session));
     live = refl;
-    standing = refl;
+    environment = refl;
     symbols = ([], [], sym (append-nil opening_session.symbols), ap (λ (s : Session). s.symbols) (unchanged opening_session) ∙ sym (append-nil opening_session.symbols));
   };
   cells = record { are = ap cells_of (sym no_live) };

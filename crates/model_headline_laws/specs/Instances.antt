@@ -12,7 +12,7 @@ use Rattle.model_books.specs.Opening.{Session, opening_session}
 use Rattle.model_books.specs.Commands.{all_cells}
 use Rattle.model_books_rows.specs.Rows.{three_commands_input, three_commands_written}
 use Rattle.model_made.specs.Made.{IsMade}
-use Rattle.model_headline.specs.Written.{Writes, LeavesLive, StandsAfterMemory, cells_of, HoldsCells}
+use Rattle.model_headline.specs.Written.{Writes, StandFor, LeavesLive, StandsAfterMemory, cells_of, HoldsCells}
 
 abbrev pub usual : Limits
 usual = record { steps = 1000000; depth = 200000 }
@@ -26,7 +26,8 @@ pub record AreMet : Type 0 where
   -- where a session begins
   pub made : IsMade opening_session
   pub leaves : LeavesLive usual opening_session five [] []
-  pub memory : StandsAfterMemory usual opening_session five 0 opening_session
+  pub begins : StandFor [] opening_session
+  pub memory : StandsAfterMemory usual opening_session five 0 [] opening_session
   pub cells : HoldsCells opening_session 0
   pub asked : IsAsked usual opening_session five []
 

@@ -9,14 +9,14 @@ use Rattle.model_terms.specs.Worlds.{World, Out, Scope}
 use Rattle.model_terms.specs.Worlds as worlds
 use Rattle.model_terms.specs.Outputs.{outs}
 use Rattle.model_terms.specs.Scopes.{kind_in}
-use Rattle.model_eval.specs.Outcomes.{Stobj, Stobjs, StateOf, State, OutcomeOf, Outcome, Gives, Stops, Unknown}
+use Rattle.model_eval.specs.Outcomes.{StobjNamed, Stobjs, StateOf, State, OutcomeOf, Outcome, Gives, Stops, Unknown}
 use Rattle.model_eval.specs.PlacesKeeping.{Journal, Closed, Open, Place, At, place_of, root_list, list_at, Store}
-use Rattle.model_eval.specs.Scopes.{variable_in, list_of}
+use Rattle.model_eval.specs.Variables.{variable_in, list_of}
 use Rattle.model_eval.specs.Checked.{checked, begun, live}
 use Rattle.model_eval.specs.InPlace.{in_place, roots_from, placed, begun_in_place}
 use Rattle.model_eval_laws.specs.Scope.{names, is_among}
 use Rattle.model_places.specs.Places.{AreApart, IsPlace}
-use Rattle.model_accepted.specs.Scopes.{IsOfKind, AreVariables, IsStobj}
+use Rattle.model_accepted.specs.StobjScopes.{IsOfKind, AreVariables, IsStobj}
 use Rattle.model_in_place.specs.Standing.{Stands}
 use Rattle.model_in_place.specs.Agreement.{EndsAtStop, Agrees}
 use Rattle.model_in_place.specs.Keeping.{AreThere, IsWritten, IsKept, ChangesOnlyOutputs}
@@ -25,7 +25,7 @@ use Rattle.model_accepted.proofs.AcceptLemmas.{false_true}
 use Rattle.model_accepted.proofs.ScopeLemmas.{some_same, none_some}
 use Rattle.model_in_place.proofs.LawLemmas.{in_place_is_applicative}
 
--- the number of an object's root
+-- the number of a stobj's root
 pub root_of : Stobjs ℕ → ℕ → ℕ
 root_of [] x = 0
 root_of (o ∷ os) x = if nat_eq x o.0 then 0 else suc (root_of os x)
@@ -85,12 +85,12 @@ live_object (o ∷ os) x k h = go (kind_in (live_scope os) x) (nat_eq x o.0) ref
     go None true e f later = (refl, sym (some_same f) ∙ ap worlds.Stobj (sym (eqb-true x o.0 e)))
     go None false e f later = none_some f
 
-live_variable : (os : Stobjs ℕ) (x : ℕ) → is_among x (names os) ≡ true → variable_in by_number (live os) x ≡ Stobj x
+live_variable : (os : Stobjs ℕ) (x : ℕ) → is_among x (names os) ≡ true → variable_in by_number (live os) x ≡ StobjNamed x
 live_variable [] x h = false_true h
 live_variable (o ∷ os) x h = go (nat_eq x o.0) refl h (live_variable os x)
   where
-    go : (b : Bool) → nat_eq x o.0 ≡ b → (b || is_among x (names os)) ≡ true → (is_among x (names os) ≡ true → variable_in by_number (live os) x ≡ Stobj x) → (if b then Stobj o.0 else variable_in by_number (live os) x) ≡ Stobj x
-    go true e f later = ap Stobj (sym (eqb-true x o.0 e))
+    go : (b : Bool) → nat_eq x o.0 ≡ b → (b || is_among x (names os)) ≡ true → (is_among x (names os) ≡ true → variable_in by_number (live os) x ≡ StobjNamed x) → (if b then StobjNamed o.0 else variable_in by_number (live os) x) ≡ StobjNamed x
+    go true e f later = ap StobjNamed (sym (eqb-true x o.0 e))
     go false e f later = later f
 
 pub stands_placed : (w : World) (os : Stobjs ℕ) → AreFitting w os → Stands w (live_scope os) os (placed os)

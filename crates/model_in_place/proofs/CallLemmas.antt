@@ -5,16 +5,16 @@ use Rattle.std.specs.Map.{lookup}
 use Rattle.std.proofs.lemmas.Bool.{eqb-true}
 use Rattle.model_lists.specs.Lists.{StobjList}
 use Rattle.model_lists.specs.Layouts.{Layout}
-use Rattle.model_lists.specs.Standing.{HasFields}
+use Rattle.model_lists.specs.LiveLists.{HasFields}
 use Rattle.model_terms.specs.Worlds.{World, Scope}
 use Rattle.model_terms.specs.Classes.{has, repeats, actual_of}
-use Rattle.model_eval.specs.Outcomes.{Shown, Plain, Stobj, Stobjs}
+use Rattle.model_eval.specs.Outcomes.{Shown, Plain, StobjNamed, Stobjs}
 use Rattle.model_eval.specs.PlacesKeeping.{Place, Places, place_of, inner_places, with_list_at}
-use Rattle.model_eval.specs.Scopes.{list_of, with_list, inner_stobjs, handed_back, actual_for}
+use Rattle.model_eval.specs.Variables.{list_of, with_list, inner_stobjs, handed_back, actual_for}
 use Rattle.model_eval_laws.specs.Scope.{names, is_among}
 use Rattle.model_eval_laws.proofs.Lists.{same_number, names_write}
 use Rattle.model_accepted.specs.Threaded.{layout_of}
-use Rattle.model_accepted.specs.Scopes.{IsStobj}
+use Rattle.model_accepted.specs.StobjScopes.{IsStobj}
 use Rattle.model_in_place.specs.Writes.{Write, stobjs_after, roots_after, AreWrites}
 use Rattle.model_in_place.specs.Calls.{Pairs, pairs_of, firsts, seconds, actual, lists_for, places_for, lists_back, writes_out, ArePairs}
 use Rattle.model_accepted.proofs.AcceptLemmas.{false_true, true_false, neither}
@@ -26,25 +26,25 @@ pub inner_objects_are : (xs : List ℕ) (vs : List (Shown ℕ)) (os : Stobjs ℕ
 inner_objects_are [] vs os = refl
 inner_objects_are (x ∷ xs) [] os = refl
 inner_objects_are (x ∷ xs) (Plain o ∷ vs) os = inner_objects_are xs vs os
-inner_objects_are (x ∷ xs) (Stobj y ∷ vs) os = ap (λ (ps : Stobjs ℕ). (x, list_of os y) ∷ ps) (inner_objects_are xs vs os)
+inner_objects_are (x ∷ xs) (StobjNamed y ∷ vs) os = ap (λ (ps : Stobjs ℕ). (x, list_of os y) ∷ ps) (inner_objects_are xs vs os)
 
 pub inner_places_are : (xs : List ℕ) (vs : List (Shown ℕ)) (scope : Places) → inner_places xs vs scope ≡ places_for (pairs_of xs vs) scope
 inner_places_are [] vs scope = refl
 inner_places_are (x ∷ xs) [] scope = refl
 inner_places_are (x ∷ xs) (Plain o ∷ vs) scope = inner_places_are xs vs scope
-inner_places_are (x ∷ xs) (Stobj y ∷ vs) scope = ap (λ (ps : Places). (x, place_of scope y) ∷ ps) (inner_places_are xs vs scope)
+inner_places_are (x ∷ xs) (StobjNamed y ∷ vs) scope = ap (λ (ps : Places). (x, place_of scope y) ∷ ps) (inner_places_are xs vs scope)
 
 pub handed_back_is : (xs : List ℕ) (vs : List (Shown ℕ)) (inner os : Stobjs ℕ) → handed_back xs vs inner os ≡ lists_back (pairs_of xs vs) inner os
 handed_back_is [] vs inner os = refl
 handed_back_is (x ∷ xs) [] inner os = refl
 handed_back_is (x ∷ xs) (Plain o ∷ vs) inner os = handed_back_is xs vs inner os
-handed_back_is (x ∷ xs) (Stobj y ∷ vs) inner os = handed_back_is xs vs inner (with_list y (list_of inner x) os)
+handed_back_is (x ∷ xs) (StobjNamed y ∷ vs) inner os = handed_back_is xs vs inner (with_list y (list_of inner x) os)
 
 pub actual_for_is : (xs : List ℕ) (vs : List (Shown ℕ)) (x : ℕ) → actual_for xs vs x ≡ actual (pairs_of xs vs) x
 actual_for_is [] vs x = refl
 actual_for_is (y ∷ ys) [] x = refl
 actual_for_is (y ∷ ys) (Plain o ∷ vs) x = actual_for_is ys vs x
-actual_for_is (y ∷ ys) (Stobj z ∷ vs) x = ap (λ (n : ℕ). if nat_eq x y then z else n) (actual_for_is ys vs x)
+actual_for_is (y ∷ ys) (StobjNamed z ∷ vs) x = ap (λ (n : ℕ). if nat_eq x y then z else n) (actual_for_is ys vs x)
 
 pub actual_of_is : (ps : Pairs) (x : ℕ) → actual_of ps x ≡ actual ps x
 actual_of_is [] x = refl
@@ -222,7 +222,7 @@ back_writes w ps (u ∷ us) os r a =
     sym (back_over ps (lists_for ps (stobjs_after (writes_out ps us) (with_list (actual ps u.0) u.1 os))) os (actual ps u.0) u.1 (actual_among ps u.0 a.0))
     ∙ back_writes w ps us (with_list (actual ps u.0) u.1 os) r a.2
 
--- the caller's objects after writes in a call
+-- the caller's stobjs after writes in a call
 pub objects_back : (w : World) (ps : Pairs) (us : List Write) (os : Stobjs ℕ) → repeats (firsts ps) ≡ false → repeats (seconds ps) ≡ false → AreWrites w (λ x. has (firsts ps) x ≡ true) us → AreKnown ps os
     → lists_back ps (stobjs_after us (lists_for ps os)) os ≡ stobjs_after (writes_out ps us) os
 objects_back w ps us os r q a k = ap (λ (inner : Stobjs ℕ). lists_back ps inner os) (writes_for w ps us os q a k) ∙ back_writes w ps us os r a

@@ -9,9 +9,9 @@ use Rattle.model_prims.specs.Applied.{Applied, applied}
 use Rattle.model_prims.specs.Applied as prims
 use Rattle.model_lists.specs.Lists.{StobjList}
 use Rattle.model_lists.specs.Layouts.{Layout, field_layout}
-use Rattle.model_lists.specs.Standing.{HasFields}
-use Rattle.model_lists.specs.Generated.{Effect, Refuses, Reads, Writes}
-use Rattle.model_lists_laws.specs.Standing.{KeepsFields}
+use Rattle.model_lists.specs.LiveLists.{HasFields}
+use Rattle.model_lists.specs.Effects.{Effect, Refuses, Reads, Writes}
+use Rattle.model_lists_laws.specs.LiveListLaws.{KeepsFields}
 use Rattle.model_terms.specs.declared.rule.Mode.{Mode}
 use Rattle.model_terms.specs.declared.rule.Mode.TheVariants.{Executable, Logic}
 use Rattle.model_terms.specs.Cores.{Core, Var}
@@ -20,20 +20,20 @@ use Rattle.model_terms.specs.Worlds as worlds
 use Rattle.model_terms.specs.Classes as classes
 use Rattle.model_terms.specs.Classes.{has, repeats, renamed_out, actual_of}
 use Rattle.model_terms.specs.Outputs.{signature_in}
-use Rattle.model_terms.specs.Children.{is_internal, is_executable}
+use Rattle.model_terms.specs.Accessors.{is_internal, is_executable}
 use Rattle.model_terms.specs.Sites.{one_ordinary}
-use Rattle.model_eval.specs.Outcomes.{Shown, Plain, Stobj, Guard, Stobjs, StateOf, State, OutcomeOf, Outcome, Gives, Stops, Unknown, stops_here}
+use Rattle.model_eval.specs.Outcomes.{Shown, Plain, StobjNamed, Guard, Stobjs, StateOf, State, OutcomeOf, Outcome, Gives, Stops, Unknown, stops_here}
 use Rattle.model_eval.specs.Keeping.{handed}
 use Rattle.model_eval.specs.ListsKeeping.{lists_keeping}
 use Rattle.model_eval.specs.PlacesKeeping.{Places, Closed, Store, place_of, places_keeping}
-use Rattle.model_eval.specs.Scopes.{Variables, variable_in, inner_variables, outer_value, first_stobj, ordinary, plain, list_of}
-use Rattle.model_eval.specs.Generated.{effect, effected, generated, list_or_none}
-use Rattle.model_eval.specs.Evaluated.{RulesOf, Rules, EvaluatorOf, Evaluator, is_false, scoped, guarded, by_definition}
+use Rattle.model_eval.specs.Variables.{Variables, variable_in, inner_variables, outer_value, first_stobj, ordinary, plain, list_of}
+use Rattle.model_eval.specs.GeneratedCalls.{effect, effected, generated, list_or_none}
+use Rattle.model_eval.specs.Evaluated.{RulesOf, Rules, EvaluatorOf, Evaluator, is_false, scoped, with_guard, by_definition}
 use Rattle.model_eval.specs.Checked.{checked_rules, primitive_ended}
 use Rattle.model_eval.specs.InPlace.{in_place_rules}
 use Rattle.model_eval_laws.proofs.Lists.{same_number}
 use Rattle.model_accepted.specs.Threaded.{IsFormed, layout_of, Suits, AreFormals, formal_entries, IsChecked, IsAdmitted, IsMade, IsThreaded}
-use Rattle.model_accepted.specs.Scopes.{IsStobj, AreVariables, AreOutputs}
+use Rattle.model_accepted.specs.StobjScopes.{IsStobj, AreVariables, AreOutputs}
 use Rattle.model_in_place.specs.Standing.{Stands, AreSame}
 use Rattle.model_in_place.specs.Writes.{Write, stobjs_after, AreWrites, MovesIf, Moves, StopsMoved, Meet}
 use Rattle.model_in_place.specs.Calls.{Pairs, pairs_of, names_in, firsts, actual, lists_for, places_for, lists_back, writes_out, AreArguments}
@@ -50,7 +50,7 @@ use Rattle.model_in_place.proofs.EffectLemmas.{AreOrdinary, HasOuts, effect_outs
 abbrev pub results : List Out → List (Shown ℕ) → List Out → List Out
 results ins values outs = map (renamed_out (zip (classes.stobjs ins) (names_in values))) outs
 
--- an object in scope that is expected
+-- a stobj in scope that is expected
 abbrev pub May : Scope → List Out → ℕ → Type 0
 May scope expected x = (has (classes.stobjs expected) x ≡ true) × IsStobj scope x
 
@@ -166,12 +166,12 @@ module _ (w : World) (threaded : IsThreaded w) (packages : List Package) (limit 
     may_object : (outs : List Out) (x : ℕ) → May scope outs x → IsStobj scope x
     may_object outs x m = m.1
 
-    -- where no object is expected nothing is written
+    -- where no stobj is expected nothing is written
     no_writes : (us : List Write) → AreWrites w (May scope one_ordinary) us → us ≡ []
     no_writes [] a = refl
     no_writes (u ∷ us) a = false_true a.0.0
 
-    -- a state after a form that wrote nothing but objects in scope
+    -- a state after a form that wrote nothing but stobjs in scope
     still_stands : (outs : List Out) (s : State ℕ) (t : StateOf (Store ℕ)) (u : State ℕ) (v : StateOf (Store ℕ)) → Stands w scope s.stobjs t.stobjs → Moves w (May scope outs) s t u v → Stands w scope u.stobjs v.stobjs
     still_stands outs s t u v stands m = stands_moved w scope (May scope outs) s t u v (may_object outs) stands m
 
@@ -180,7 +180,7 @@ module _ (w : World) (threaded : IsThreaded w) (packages : List Package) (limit 
         → AreFormals formals ins → repeats formals ≡ false → AreArguments w scope ins values → repeats (names_in values) ≡ false → IsChecked w formals ins guard one_ordinary
         → (s : State ℕ) (t : StateOf (Store ℕ)) → Stands w scope s.stobjs t.stobjs → AreSame s t
         → ((u : State ℕ) (v : StateOf (Store ℕ)) → u.stobjs ≡ s.stobjs → Stands w scope u.stobjs v.stobjs → AreSame u v → Meet w Are (May scope outs) (IsStobj scope) u v (go u) (to v))
-        → Meet w Are (May scope outs) (IsStobj scope) s t (guarded on_lists ev name formals guard values go s) (guarded at_places el name formals guard values to t)
+        → Meet w Are (May scope outs) (IsStobj scope) s t (with_guard on_lists ev name formals guard values go s) (with_guard at_places el name formals guard values to t)
     meets_guarded name formals ins guard values Are outs go to f d a r checked s t stands e k =
         meets_then w (AreOutputs scope one_ordinary) Are (May scope one_ordinary) (May scope outs) (IsStobj scope) s t
         (scoped on_lists ev formals values guard s) (scoped at_places el formals values guard t)
@@ -204,9 +204,9 @@ module _ (w : World) (threaded : IsThreaded w) (packages : List Package) (limit 
     meets_answer f values s t (prims.Stops prims.Large) e = meets_stop w (AreOutputs scope one_ordinary) (May scope one_ordinary) (IsStobj scope) s t _ e
     meets_answer f values s t (prims.Stops prims.Symbols) e = meets_stop w (AreOutputs scope one_ordinary) (May scope one_ordinary) (IsStobj scope) s t _ e
 
-    -- ---- functions of an object
+    -- ---- functions of a stobj
 
-    -- the first object of the arguments is one in scope
+    -- the first stobj of the arguments is one in scope
     abbrev pub FirstIn : Option ℕ → Type 0
     FirstIn None = Unit {0}
     FirstIn (Some x) = IsStobj scope x
@@ -216,32 +216,32 @@ module _ (w : World) (threaded : IsThreaded w) (packages : List Package) (limit 
     first_in_scope [] (v ∷ vs) a = absurd a
     first_in_scope (k ∷ ks) [] a = absurd a
     first_in_scope (k ∷ ks) (Plain o ∷ vs) a = first_in_scope ks vs a.1
-    first_in_scope (Ordinary ∷ ks) (Stobj y ∷ vs) a = absurd a.0
-    first_in_scope (worlds.Stobj x ∷ ks) (Stobj y ∷ vs) a = a.0.0
+    first_in_scope (Ordinary ∷ ks) (StobjNamed y ∷ vs) a = absurd a.0
+    first_in_scope (worlds.Stobj x ∷ ks) (StobjNamed y ∷ vs) a = a.0.0
 
     pub no_names : (ins : List Out) (values : List (Shown ℕ)) → AreArguments w scope ins values → classes.stobjs ins ≡ [] → names_in values ≡ []
     no_names [] [] a e = refl
     no_names [] (v ∷ vs) a e = absurd a
     no_names (k ∷ ks) [] a e = absurd a
     no_names (Ordinary ∷ ks) (Plain o ∷ vs) a e = no_names ks vs a.1 e
-    no_names (Ordinary ∷ ks) (Stobj y ∷ vs) a e = absurd a.0
+    no_names (Ordinary ∷ ks) (StobjNamed y ∷ vs) a e = absurd a.0
     no_names (worlds.Stobj x ∷ ks) v a e = cc
 
-    -- the only object of the arguments
-    pub only_argument : (object : ℕ) (ins : List Out) (values : List (Shown ℕ)) → AreArguments w scope ins values → classes.stobjs ins ≡ object ∷ []
-        → (y : ℕ) × (first_stobj values ≡ Some y) × (names_in values ≡ y ∷ []) × IsStobj scope y × (layout_of w object ≡ layout_of w y)
-    only_argument object [] values a e = cc
-    only_argument object (k ∷ ks) [] a e = absurd a
-    only_argument object (Ordinary ∷ ks) (Plain o ∷ vs) a e = only_argument object ks vs a.1 e
-    only_argument object (Ordinary ∷ ks) (Stobj y ∷ vs) a e = absurd a.0
-    only_argument object (worlds.Stobj x ∷ ks) (Plain o ∷ vs) a e = absurd a.0
-    only_argument object (worlds.Stobj x ∷ ks) (Stobj y ∷ vs) a e =
+    -- the only stobj of the arguments
+    pub only_argument : (stobj : ℕ) (ins : List Out) (values : List (Shown ℕ)) → AreArguments w scope ins values → classes.stobjs ins ≡ stobj ∷ []
+        → (y : ℕ) × (first_stobj values ≡ Some y) × (names_in values ≡ y ∷ []) × IsStobj scope y × (layout_of w stobj ≡ layout_of w y)
+    only_argument stobj [] values a e = cc
+    only_argument stobj (k ∷ ks) [] a e = absurd a
+    only_argument stobj (Ordinary ∷ ks) (Plain o ∷ vs) a e = only_argument stobj ks vs a.1 e
+    only_argument stobj (Ordinary ∷ ks) (StobjNamed y ∷ vs) a e = absurd a.0
+    only_argument stobj (worlds.Stobj x ∷ ks) (Plain o ∷ vs) a e = absurd a.0
+    only_argument stobj (worlds.Stobj x ∷ ks) (StobjNamed y ∷ vs) a e =
         (y, refl, ap (λ (ns : List ℕ). y ∷ ns) (no_names ks vs a.1 (rest_same e)), a.0.0, ap (layout_of w) (sym (first_same e)) ∙ a.0.1)
       where
-        rest_same : x ∷ classes.stobjs ks ≡ object ∷ [] → classes.stobjs ks ≡ []
+        rest_same : x ∷ classes.stobjs ks ≡ stobj ∷ [] → classes.stobjs ks ≡ []
         rest_same g = cc
 
-        first_same : x ∷ classes.stobjs ks ≡ object ∷ [] → x ≡ object
+        first_same : x ∷ classes.stobjs ks ≡ stobj ∷ [] → x ≡ stobj
         first_same g = cc
 
     pub plain_outputs : (ins : List Out) (values : List (Shown ℕ)) (outs : List Out) (os : List (Object ℕ)) → AreOrdinary outs os → AreOutputs scope (results ins values outs) (plain os)
@@ -257,8 +257,8 @@ module _ (w : World) (threaded : IsThreaded w) (packages : List Package) (limit 
 
     pub meets_effected : (g : GeneratedFunction) (values : List (Shown ℕ)) → IsMade w g → AreArguments w scope g.signature.ins values
         → (s : State ℕ) (t : StateOf (Store ℕ)) → Stands w scope s.stobjs t.stobjs → AreSame s t
-        → (q : Effect ℕ) → HasOuts g.object g.signature.outs q
-        → ((y : ℕ) → first_stobj values ≡ Some y → layout_of w g.object ≡ layout_of w y → KeepsFields (layout_of w g.object) q)
+        → (q : Effect ℕ) → HasOuts g.stobj g.signature.outs q
+        → ((y : ℕ) → first_stobj values ≡ Some y → layout_of w g.stobj ≡ layout_of w y → KeepsFields (layout_of w g.stobj) q)
         → Meet w (AreOutputs scope (results g.signature.ins values g.signature.outs)) (May scope (results g.signature.ins values g.signature.outs)) (IsStobj scope) s t
         (effected lists_keeping g.name values (first_stobj values) s q) (effected places_keeping g.name values (first_stobj values) t q)
     meets_effected g values made a s t stands e Refuses o k = meets_stop w (AreOutputs scope (results g.signature.ins values g.signature.outs)) (May scope (results g.signature.ins values g.signature.outs)) (IsStobj scope) s t (Guard g.name values) e
@@ -266,8 +266,8 @@ module _ (w : World) (threaded : IsThreaded w) (packages : List Package) (limit 
         meets_give w (AreOutputs scope (results g.signature.ins values g.signature.outs)) (May scope (results g.signature.ins values g.signature.outs)) (IsStobj scope) s t (plain os)
         (plain_outputs g.signature.ins values g.signature.outs os o) e
     meets_effected g values made a s t stands e (Writes l) o k =
-        let only : (y : ℕ) × (first_stobj values ≡ Some y) × (names_in values ≡ y ∷ []) × IsStobj scope y × (layout_of w g.object ≡ layout_of w y)
-        = only_argument g.object g.signature.ins values a (made.only o) in
+        let only : (y : ℕ) × (first_stobj values ≡ Some y) × (names_in values ≡ y ∷ []) × IsStobj scope y × (layout_of w g.stobj ≡ layout_of w y)
+        = only_argument g.stobj g.signature.ins values a (made.only o) in
         let y : ℕ = only.0 in
         let outs : results g.signature.ins values g.signature.outs ≡ worlds.Stobj y ∷ [] = renamed_only y (made.only o) only.2 o in
         rw (only.1, outs) (
@@ -285,26 +285,26 @@ module _ (w : World) (threaded : IsThreaded w) (packages : List Package) (limit 
           },
         )
       where
-        renamed_only : (y : ℕ) → classes.stobjs g.signature.ins ≡ g.object ∷ [] → names_in values ≡ y ∷ [] → g.signature.outs ≡ worlds.Stobj g.object ∷ [] → results g.signature.ins values g.signature.outs ≡ worlds.Stobj y ∷ []
-        renamed_only y i n o = rw (i, n, o, same_number g.object) refl
+        renamed_only : (y : ℕ) → classes.stobjs g.signature.ins ≡ g.stobj ∷ [] → names_in values ≡ y ∷ [] → g.signature.outs ≡ worlds.Stobj g.stobj ∷ [] → results g.signature.ins values g.signature.outs ≡ worlds.Stobj y ∷ []
+        renamed_only y i n o = rw (i, n, o, same_number g.stobj) refl
 
     pub meets_generated : (g : GeneratedFunction) (values : List (Shown ℕ)) → IsMade w g → AreArguments w scope g.signature.ins values
         → (s : State ℕ) (t : StateOf (Store ℕ)) → Stands w scope s.stobjs t.stobjs → AreSame s t
         → Meet w (AreOutputs scope (results g.signature.ins values g.signature.outs)) (May scope (results g.signature.ins values g.signature.outs)) (IsStobj scope) s t
-        (generated lists_keeping by_number g (layout_of w g.object) values s) (generated places_keeping by_number g (layout_of w g.object) values t)
+        (generated lists_keeping by_number g (layout_of w g.stobj) values s) (generated places_keeping by_number g (layout_of w g.stobj) values t)
     meets_generated g values made a s t stands e =
         let n : ℕ = unwrap_or g.field 0 in
         let l : StobjList ℕ = list_or_none lists_keeping s.stobjs (first_stobj values) in
         subst (λ (m : StobjList ℕ). Meet w (AreOutputs scope (results g.signature.ins values g.signature.outs)) (May scope (results g.signature.ins values g.signature.outs)) (IsStobj scope) s t
-        (generated lists_keeping by_number g (layout_of w g.object) values s)
-        (effected places_keeping g.name values (first_stobj values) t (effect by_number g.role (field_layout n (layout_of w g.object)) n (ordinary values) m)))
+        (generated lists_keeping by_number g (layout_of w g.stobj) values s)
+        (effected places_keeping g.name values (first_stobj values) t (effect by_number g.role (field_layout n (layout_of w g.stobj)) n (ordinary values) m)))
         (sym (same_list s t (first_stobj values) stands (first_in_scope g.signature.ins values a)))
-        (meets_effected g values made a s t stands e (effect by_number g.role (field_layout n (layout_of w g.object)) n (ordinary values) l)
-        (subst (λ (outs : List Out). HasOuts g.object outs (effect by_number g.role (field_layout n (layout_of w g.object)) n (ordinary values) l)) (sym made.outs)
-        (effect_outs by_number g.object g.role (field_layout n (layout_of w g.object)) n (ordinary values) l))
-        (λ y i same. effect_keeps by_number g.object g.role (layout_of w g.object) n (ordinary values) l made.suits (fitting (first_stobj values) y i same (first_in_scope g.signature.ins values a))))
+        (meets_effected g values made a s t stands e (effect by_number g.role (field_layout n (layout_of w g.stobj)) n (ordinary values) l)
+        (subst (λ (outs : List Out). HasOuts g.stobj outs (effect by_number g.role (field_layout n (layout_of w g.stobj)) n (ordinary values) l)) (sym made.outs)
+        (effect_outs by_number g.stobj g.role (field_layout n (layout_of w g.stobj)) n (ordinary values) l))
+        (λ y i same. effect_keeps by_number g.stobj g.role (layout_of w g.stobj) n (ordinary values) l made.suits (fitting (first_stobj values) y i same (first_in_scope g.signature.ins values a))))
       where
-        fitting : (x : Option ℕ) (y : ℕ) → x ≡ Some y → layout_of w g.object ≡ layout_of w y → FirstIn x → HasFields (layout_of w g.object) (list_or_none lists_keeping s.stobjs x)
+        fitting : (x : Option ℕ) (y : ℕ) → x ≡ Some y → layout_of w g.stobj ≡ layout_of w y → FirstIn x → HasFields (layout_of w g.stobj) (list_or_none lists_keeping s.stobjs x)
         fitting None y i same in_scope = none_some i
         fitting (Some x) y i same in_scope =
             subst (λ (m : Layout ℕ). HasFields m (list_of s.stobjs x)) (sym (same ∙ ap (layout_of w) (sym (some_same i)))) (stands.fits x in_scope)

@@ -1,4 +1,4 @@
--- What the functions of an object do, by their outputs.
+-- What the functions of a stobj do, by their outputs.
 use Rattle.std.proofs.Common.{◌≡◌, ℕ, List, [], ◌∷◌, Bool, true, false, refl}
 use Rattle.std.specs.Prelude.{◌&&◌}
 use Rattle.model_objects.specs.Object.{Object}
@@ -8,15 +8,15 @@ use Rattle.model_prims.specs.Applied.{argument}
 use Rattle.model_lists.specs.Lists.{StobjList, Value, size, item, with_item, resized}
 use Rattle.model_lists.specs.Types.{meets}
 use Rattle.model_lists.specs.Layouts.{Layout, Scalar, Array, Hash, Children, NoField, Field, field_layout}
-use Rattle.model_lists.specs.Standing.{HasFields}
-use Rattle.model_lists.specs.Generated.{Effect, Refuses, Reads, Writes, is_index, is_up_to, may_be_key, most_elements, when, with_key, accessed, changed, lengthened, hash_read, hash_bound, hash_looked_up, hash_put, hash_removed}
-use Rattle.model_lists_laws.specs.Standing.{KeepsFields}
+use Rattle.model_lists.specs.LiveLists.{HasFields}
+use Rattle.model_lists.specs.Effects.{Effect, Refuses, Reads, Writes, is_index, is_up_to, may_be_key, most_elements, when, with_key, accessed, changed, lengthened, hash_read, hash_bound, hash_looked_up, hash_put, hash_removed}
+use Rattle.model_lists_laws.specs.LiveListLaws.{KeepsFields}
 use Rattle.model_lists_laws.proofs.KeptFields.{accessed_keeps, changed_keeps, lengthened_keeps, hash_read_keeps, hash_bound_keeps, hash_looked_up_keeps, put_keeps, removed_keeps, cleared_keeps}
 use Rattle.model_terms.specs.Worlds.{Out, Ordinary, Stobj}
 use Rattle.model_terms.specs.declared.role.Role.{Role}
 use Rattle.model_terms.specs.declared.role.Role.TheVariants as role
-use Rattle.model_eval.specs.Generated.{effect}
-use Rattle.model_eval_alike.specs.Standing.{SuitsRole}
+use Rattle.model_eval.specs.GeneratedCalls.{effect}
+use Rattle.model_eval_alike.specs.FunctionLaws.{SuitsRole}
 use Rattle.model_accepted.specs.Threaded.{role_outs}
 
 -- as many ordinary outputs as values
@@ -29,16 +29,16 @@ AreOrdinary (Stobj x ∷ ks) (o ∷ os) = ⊥
 
 -- it gives such outputs, where it gives any
 abbrev pub HasOuts : {S : Type 0} → ℕ → List Out → Effect S → Type 0
-HasOuts object outs Refuses = Unit {0}
-HasOuts object outs (Reads os) = AreOrdinary outs os
-HasOuts object outs (Writes l) = outs ≡ Stobj object ∷ []
+HasOuts stobj outs Refuses = Unit {0}
+HasOuts stobj outs (Reads os) = AreOrdinary outs os
+HasOuts stobj outs (Writes l) = outs ≡ Stobj stobj ∷ []
 
-module _ {S : Type 0} (k : SymbolKind S) (object : ℕ) where
-  outs_when : (outs : List Out) (b : Bool) (e : Effect S) → HasOuts object outs e → HasOuts object outs (when k b e)
+module _ {S : Type 0} (k : SymbolKind S) (stobj : ℕ) where
+  outs_when : (outs : List Out) (b : Bool) (e : Effect S) → HasOuts stobj outs e → HasOuts stobj outs (when k b e)
   outs_when outs true e h = h
   outs_when outs false e h = tt
 
-  outs_key : (outs : List Out) (layout : Layout S) (key : Object S) (e : Effect S) → HasOuts object outs e → HasOuts object outs (with_key k layout key e)
+  outs_key : (outs : List Out) (layout : Layout S) (key : Object S) (e : Effect S) → HasOuts stobj outs e → HasOuts stobj outs (with_key k layout key e)
   outs_key outs (Hash test) key e h = outs_when outs (may_be_key test key) e h
   outs_key outs (Scalar t o) key e h = tt
   outs_key outs (Array t o n resizable) key e h = tt
@@ -46,7 +46,7 @@ module _ {S : Type 0} (k : SymbolKind S) (object : ℕ) where
   outs_key outs NoField key e h = tt
   outs_key outs (Field first others) key e h = tt
 
-  outs_accessed : (layout : Layout S) (f : ℕ) (args : List (Object S)) (l : StobjList S) → HasOuts object (Ordinary ∷ []) (accessed k layout f args l)
+  outs_accessed : (layout : Layout S) (f : ℕ) (args : List (Object S)) (l : StobjList S) → HasOuts stobj (Ordinary ∷ []) (accessed k layout f args l)
   unfolding accessed
   outs_accessed (Scalar t o) f args l = tt
   outs_accessed (Array t o n resizable) f args l = outs_when (Ordinary ∷ []) (is_index (argument k args 0) (size (item f l))) _ tt
@@ -55,27 +55,27 @@ module _ {S : Type 0} (k : SymbolKind S) (object : ℕ) where
   outs_accessed NoField f args l = tt
   outs_accessed (Field first others) f args l = tt
 
-  outs_changed : (layout : Layout S) (f : ℕ) (args : List (Object S)) (l : StobjList S) → HasOuts object (Stobj object ∷ []) (changed k layout f args l)
+  outs_changed : (layout : Layout S) (f : ℕ) (args : List (Object S)) (l : StobjList S) → HasOuts stobj (Stobj stobj ∷ []) (changed k layout f args l)
   unfolding changed
-  outs_changed (Scalar t o) f args l = outs_when (Stobj object ∷ []) (meets k t (argument k args 0)) _ refl
-  outs_changed (Array t o n resizable) f args l = outs_when (Stobj object ∷ []) (is_index (argument k args 0) (size (item f l)) && meets k t (argument k args 1)) _ refl
+  outs_changed (Scalar t o) f args l = outs_when (Stobj stobj ∷ []) (meets k t (argument k args 0)) _ refl
+  outs_changed (Array t o n resizable) f args l = outs_when (Stobj stobj ∷ []) (is_index (argument k args 0) (size (item f l)) && meets k t (argument k args 1)) _ refl
   outs_changed (Hash test) f args l = tt
   outs_changed (Children n child) f args l = tt
   outs_changed NoField f args l = tt
   outs_changed (Field first others) f args l = tt
 
-  outs_lengthened : (layout : Layout S) (f : ℕ) (args : List (Object S)) (l : StobjList S) → HasOuts object (Stobj object ∷ []) (lengthened k layout f args l)
+  outs_lengthened : (layout : Layout S) (f : ℕ) (args : List (Object S)) (l : StobjList S) → HasOuts stobj (Stobj stobj ∷ []) (lengthened k layout f args l)
   unfolding lengthened
   outs_lengthened (Scalar t o) f args l = tt
   outs_lengthened (Array t o n resizable) f args l =
-      outs_when (Stobj object ∷ []) (resizable && is_up_to most_elements (argument k args 0)) (Writes (with_item f (resized (natural_of (argument k args 0)) (Value o) (item f l)) l)) refl
+      outs_when (Stobj stobj ∷ []) (resizable && is_up_to most_elements (argument k args 0)) (Writes (with_item f (resized (natural_of (argument k args 0)) (Value o) (item f l)) l)) refl
   outs_lengthened (Hash test) f args l = tt
   outs_lengthened (Children n child) f args l = tt
   outs_lengthened NoField f args l = tt
   outs_lengthened (Field first others) f args l = tt
 
   -- each function gives the outputs of its role
-  pub effect_outs : (r : Role) (layout : Layout S) (f : ℕ) (args : List (Object S)) (l : StobjList S) → HasOuts object (role_outs r object) (effect k r layout f args l)
+  pub effect_outs : (r : Role) (layout : Layout S) (f : ℕ) (args : List (Object S)) (l : StobjList S) → HasOuts stobj (role_outs r stobj) (effect k r layout f args l)
   unfolding effect hash_read hash_bound hash_looked_up hash_put hash_removed
   effect_outs role.Recognizer layout f args l = tt
   effect_outs role.Creator layout f args l = tt
@@ -87,8 +87,8 @@ module _ {S : Type 0} (k : SymbolKind S) (object : ℕ) where
   effect_outs role.HashGet layout f args l = outs_key (Ordinary ∷ []) layout (argument k args 0) _ tt
   effect_outs role.HashBoundp layout f args l = outs_key (Ordinary ∷ []) layout (argument k args 0) _ tt
   effect_outs role.HashGetBound layout f args l = outs_key (Ordinary ∷ Ordinary ∷ []) layout (argument k args 0) _ tt
-  effect_outs role.HashPut layout f args l = outs_key (Stobj object ∷ []) layout (argument k args 0) _ refl
-  effect_outs role.HashRem layout f args l = outs_key (Stobj object ∷ []) layout (argument k args 0) _ refl
+  effect_outs role.HashPut layout f args l = outs_key (Stobj stobj ∷ []) layout (argument k args 0) _ refl
+  effect_outs role.HashRem layout f args l = outs_key (Stobj stobj ∷ []) layout (argument k args 0) _ refl
   effect_outs role.HashCount layout f args l = tt
   effect_outs role.HashClear layout f args l = refl
 

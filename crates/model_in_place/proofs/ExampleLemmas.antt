@@ -5,18 +5,18 @@ use Rattle.std.specs.List.{AllByRecursion}
 use Rattle.std.proofs.lemmas.Bool.{eqb-true}
 use Rattle.model_lists.specs.Layouts.{Layout}
 use Rattle.model_terms.specs.declared.role.AbstractRole.TheVariants as abstract_role
-use Rattle.model_terms.specs.Worlds.{World, Definition, definition, name_of, Out, Ordinary, Stobj, Primitive, Defined, Macro, Constant, Concrete, Generated, Abstract, OfAbstract, Named, Signed}
+use Rattle.model_terms.specs.Worlds.{World, Definition, definition, definition_name, Out, Ordinary, Stobj, Primitive, Defined, Macro, Constant, Concrete, Generated, Abstract, OfAbstract, Named, Signed}
 use Rattle.model_terms.specs.Classes.{class_in, class_of, same_class, congruent}
 use Rattle.model_terms.specs.Outputs.{outputs}
 use Rattle.model_terms.specs.Sites.{below}
 use Rattle.model_terms.specs.Nested.{stobj_let_holds, with_local_holds}
 use Rattle.model_terms.specs.Faults.{first_in, first_fault}
-use Rattle.model_terms.specs.Children.{One, ChildAccessor, child_accessor, accessor_in, is_internal}
+use Rattle.model_terms.specs.Accessors.{One, ChildAccessor, child_accessor, accessor_in, is_internal}
 use Rattle.model_terms_laws.proofs.ClassLemmas.{found_name}
-use Rattle.model_eval.specs.Worlds.{layout_within}
-use Rattle.model_eval.specs.Generated.{effect}
+use Rattle.model_eval.specs.StobjLayouts.{layout_within}
+use Rattle.model_eval.specs.GeneratedCalls.{effect}
 use Rattle.model_eval.specs.Evaluated.{exec_called, called, in_order, all_borrowed, put_back, evaluated}
-use Rattle.model_lists.specs.Generated.{accessed, changed}
+use Rattle.model_lists.specs.Effects.{accessed, changed}
 use Rattle.model_accepted.specs.Threaded.{IsFormed, layout_of, Reaches, Suits, IsAdmitted, IsMade, IsExport, IsRecognizer, IsThreaded}
 use Rattle.model_in_place.specs.Example.{world, writer, body, IsExample}
 use Rattle.model_accepted.proofs.AcceptLemmas.{false_true, true_false}
@@ -25,7 +25,7 @@ use Rattle.model_accepted.proofs.ScopeLemmas.{some_same, none_some}
 -- what holds of each definition holds of one that is found
 pub found_one : (P : Definition → Type 0) (ds : World) (x : ℕ) (d : Definition) → AllByRecursion P ds → definition ds x ≡ Some d → P d
 found_one P [] x d a e = none_some e
-found_one P (f ∷ ds) x d a e = go (nat_eq x (name_of f)) e (found_one P ds x d a.1)
+found_one P (f ∷ ds) x d a e = go (nat_eq x (definition_name f)) e (found_one P ds x d a.1)
   where
     go : (b : Bool) → (if b then Some f else definition ds x) ≡ Some d → (definition ds x ≡ Some d → P d) → P d
     go true g later = subst P (some_same g) a.0
@@ -54,10 +54,10 @@ threaded_by w a = record {
   recognizers = λ x f e. (found_one (IsReady w) w x (OfAbstract f) a e).1;
 }
 
--- the layout of each object is that of its class, and each accessor of a child reaches one
+-- the layout of each stobj is that of its class, and each accessor of a child reaches one
 pub record IsSuited (w : World) (of_class : ℕ → Layout ℕ) (d : Definition) : Type 0 where
-  pub class : (a : ℕ) → class_in d ≡ Some a → layout_of w (name_of d) ≡ of_class a
-  pub accessor : (a : ChildAccessor) → accessor_in w d ≡ Some a → Reaches w (name_of d) a
+  pub class : (a : ℕ) → class_in d ≡ Some a → layout_of w (definition_name d) ≡ of_class a
+  pub accessor : (a : ChildAccessor) → accessor_in w d ≡ Some a → Reaches w (definition_name d) a
 
 pub suits_by : (w : World) (of_class : ℕ → Layout ℕ) → AllByRecursion (IsSuited w of_class) w → Suits w w
 suits_by w of_class all = record {
@@ -99,7 +99,7 @@ not_class e = cc
 no_accessor : {A : Type 0} {a : ChildAccessor} → ◌≡◌ {A = Option ChildAccessor} None (Some a) → A
 no_accessor e = cc
 
-reaches_child : Reaches world 15 (record { object = 10; field = 0; holds = One 1 })
+reaches_child : Reaches world 15 (record { stobj = 10; field = 0; holds = One 1 })
 unfolding layout_within
 reaches_child = record { number = refl; field = layout_of world 1; there = refl; held = refl }
 

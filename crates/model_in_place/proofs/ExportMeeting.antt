@@ -1,4 +1,4 @@
--- Functions of abstract objects, and every call, in place and on lists.
+-- Functions of abstract stobjs, and every call, in place and on lists.
 use Rattle.std.proofs.Common.{◌≡◌, ℕ, List, [], ◌∷◌, map, true, false, Option, Some, refl, sym, ap, ◌∙◌, subst}
 use Rattle.model_symbols.specs.Symbols.{Package}
 use Rattle.model_prims.specs.Kinds.{by_number, truth_of}
@@ -10,16 +10,16 @@ use Rattle.model_terms.specs.Classes as classes
 use Rattle.model_terms.specs.Classes.{repeats, renamed_out}
 use Rattle.model_terms.specs.Outputs.{signature_in}
 use Rattle.model_terms.specs.Sites.{one_ordinary}
-use Rattle.model_eval.specs.Outcomes.{Shown, Plain, Stobj, Stobjs, StateOf, State, OutcomeOf, Outcome, Gives, Stops, Unknown, inside_of, cut_before, cut_at, one_more_call}
+use Rattle.model_eval.specs.Outcomes.{Shown, Plain, StobjNamed, Stobjs, StateOf, State, OutcomeOf, Outcome, Gives, Stops, Unknown, inside_of, cut_before, cut_at, one_more_call}
 use Rattle.model_eval.specs.Keeping.{beginning}
 use Rattle.model_eval.specs.ListsKeeping.{list_restored, lists_keeping}
 use Rattle.model_eval.specs.PlacesKeeping.{Places, Journal, Store, closed_journal, places_keeping}
-use Rattle.model_eval.specs.Scopes.{first_stobj, plain, list_of, with_list}
-use Rattle.model_eval.specs.Evaluated.{RulesOf, Rules, EvaluatorOf, Evaluator, guarded, refused, of_abstract, by_definition, exec_called, called}
+use Rattle.model_eval.specs.Variables.{first_stobj, plain, list_of, with_list}
+use Rattle.model_eval.specs.Evaluated.{RulesOf, Rules, EvaluatorOf, Evaluator, with_guard, refused, of_abstract, by_definition, exec_called, called}
 use Rattle.model_eval.specs.Checked.{inside_after, checked_export}
 use Rattle.model_eval_laws.proofs.Lists.{same_number}
 use Rattle.model_accepted.specs.Threaded.{layout_of, Runs, abstracted, AreOnly, IsConcrete, IsExport, IsThreaded}
-use Rattle.model_accepted.specs.Scopes.{IsStobj, AreOutputs}
+use Rattle.model_accepted.specs.StobjScopes.{IsStobj, AreOutputs}
 use Rattle.model_in_place.specs.Standing.{Stands, AreSame}
 use Rattle.model_in_place.specs.Writes.{Meet}
 use Rattle.model_in_place.specs.Calls.{names_in, AreArguments}
@@ -35,7 +35,7 @@ module _ (w : World) (threaded : IsThreaded w) (packages : List Package) (limit 
   abbrev place_rules : RulesOf (places_keeping {S = ℕ})
   place_rules = at_places w threaded packages limit
 
-  -- what is said of a call, where these objects are in scope
+  -- what is said of a call, where these stobjs are in scope
   abbrev MeetsIn : Scope → Signature → List (Shown ℕ) → State ℕ → StateOf (Store ℕ) → Outcome ℕ → OutcomeOf ℕ (Store ℕ) → Type 0
   MeetsIn around sig values s t p q = MeetsCall w threaded packages limit ev el h around sig values s t p q
 
@@ -55,13 +55,13 @@ module _ (w : World) (threaded : IsThreaded w) (packages : List Package) (limit 
       (meets_definition w threaded packages limit ev el h around (λ f after. refused rules name values after) (λ f after. refused place_rules name values after) name sig values there.there there.stands there.signed there.callable there.executable a r s t stands e
       (λ f g. absurd (not_abstract there.there f i g)))
 
-  exec_arguments : (object foundation : ℕ) (ins : List Out) (values : List (Shown ℕ)) → layout_of w object ≡ layout_of w foundation → AreOnly foundation ins → AreArguments w scope (map (abstracted object) ins) values → AreArguments w scope ins values
-  exec_arguments object foundation [] values l o a = a
-  exec_arguments object foundation (k ∷ ks) [] l o a = absurd a
-  exec_arguments object foundation (Ordinary ∷ ks) (v ∷ vs) l o a = (a.0, exec_arguments object foundation ks vs l o a.1)
-  exec_arguments object foundation (worlds.Stobj x ∷ ks) (Plain p ∷ vs) l o a = absurd a.0
-  exec_arguments object foundation (worlds.Stobj x ∷ ks) (Stobj y ∷ vs) l o a =
-      ((a.0.0, ap (layout_of w) o.0 ∙ (sym l ∙ a.0.1)), exec_arguments object foundation ks vs l o.1 a.1)
+  exec_arguments : (stobj foundation : ℕ) (ins : List Out) (values : List (Shown ℕ)) → layout_of w stobj ≡ layout_of w foundation → AreOnly foundation ins → AreArguments w scope (map (abstracted stobj) ins) values → AreArguments w scope ins values
+  exec_arguments stobj foundation [] values l o a = a
+  exec_arguments stobj foundation (k ∷ ks) [] l o a = absurd a
+  exec_arguments stobj foundation (Ordinary ∷ ks) (v ∷ vs) l o a = (a.0, exec_arguments stobj foundation ks vs l o a.1)
+  exec_arguments stobj foundation (worlds.Stobj x ∷ ks) (Plain p ∷ vs) l o a = absurd a.0
+  exec_arguments stobj foundation (worlds.Stobj x ∷ ks) (StobjNamed y ∷ vs) l o a =
+      ((a.0.0, ap (layout_of w) o.0 ∙ (sym l ∙ a.0.1)), exec_arguments stobj foundation ks vs l o.1 a.1)
 
   only_objects : (foundation : ℕ) (ins : List Out) → classes.stobjs ins ≡ foundation ∷ [] → AreOnly foundation ins
   only_objects foundation [] e = tt
@@ -79,23 +79,23 @@ module _ (w : World) (threaded : IsThreaded w) (packages : List Package) (limit 
       no_objects (Ordinary ∷ ks) e = no_objects ks e
       no_objects (worlds.Stobj x ∷ ks) e = cc
 
-  abstracted_objects : (object : ℕ) (ins : List Out) (foundation : ℕ) → classes.stobjs ins ≡ foundation ∷ [] → classes.stobjs (map (abstracted object) ins) ≡ object ∷ []
-  abstracted_objects object [] foundation e = cc
-  abstracted_objects object (Ordinary ∷ ks) foundation e = abstracted_objects object ks foundation e
-  abstracted_objects object (worlds.Stobj x ∷ ks) foundation e = ap (λ (xs : List ℕ). object ∷ xs) (none_more ks (rest_same e))
+  abstracted_objects : (stobj : ℕ) (ins : List Out) (foundation : ℕ) → classes.stobjs ins ≡ foundation ∷ [] → classes.stobjs (map (abstracted stobj) ins) ≡ stobj ∷ []
+  abstracted_objects stobj [] foundation e = cc
+  abstracted_objects stobj (Ordinary ∷ ks) foundation e = abstracted_objects stobj ks foundation e
+  abstracted_objects stobj (worlds.Stobj x ∷ ks) foundation e = ap (λ (xs : List ℕ). stobj ∷ xs) (none_more ks (rest_same e))
     where
       rest_same : x ∷ classes.stobjs ks ≡ foundation ∷ [] → classes.stobjs ks ≡ []
       rest_same g = cc
 
-      none_more : (ks : List Out) → classes.stobjs ks ≡ [] → classes.stobjs (map (abstracted object) ks) ≡ []
+      none_more : (ks : List Out) → classes.stobjs ks ≡ [] → classes.stobjs (map (abstracted stobj) ks) ≡ []
       none_more [] e = refl
       none_more (Ordinary ∷ ks) e = none_more ks e
       none_more (worlds.Stobj x ∷ ks) e = cc
 
-  renamed_alike : (object foundation y : ℕ) (outs : List Out) → AreOnly foundation outs → map (renamed_out ((foundation, y) ∷ [])) outs ≡ map (renamed_out ((object, y) ∷ [])) (map (abstracted object) outs)
-  renamed_alike object foundation y [] o = refl
-  renamed_alike object foundation y (Ordinary ∷ ks) o = ap (λ (ks : List Out). Ordinary ∷ ks) (renamed_alike object foundation y ks o)
-  renamed_alike object foundation y (worlds.Stobj x ∷ ks) o = rw (o.0, same_number foundation, same_number object, renamed_alike object foundation y ks o.1) refl
+  renamed_alike : (stobj foundation y : ℕ) (outs : List Out) → AreOnly foundation outs → map (renamed_out ((foundation, y) ∷ [])) outs ≡ map (renamed_out ((stobj, y) ∷ [])) (map (abstracted stobj) outs)
+  renamed_alike stobj foundation y [] o = refl
+  renamed_alike stobj foundation y (Ordinary ∷ ks) o = ap (λ (ks : List Out). Ordinary ∷ ks) (renamed_alike stobj foundation y ks o)
+  renamed_alike stobj foundation y (worlds.Stobj x ∷ ks) o = rw (o.0, same_number foundation, same_number stobj, renamed_alike stobj foundation y ks o.1) refl
 
   -- an export and its exec function have the same results
   results_alike : (f : FunctionOfAbstract) (x : IsExport w f) (values : List (Shown ℕ)) → AreArguments w scope x.signature.ins values
@@ -103,7 +103,7 @@ module _ (w : World) (threaded : IsThreaded w) (packages : List Package) (limit 
   results_alike f x values a =
       let only : (y : ℕ) × (first_stobj values ≡ Some y) × (names_in values ≡ y ∷ []) × IsStobj scope y × (layout_of w x.foundation ≡ layout_of w y)
       = only_argument w threaded packages limit ev el h scope x.foundation x.signature.ins values a x.only in
-      rw (x.ins, x.outs, only.2, x.only, abstracted_objects f.object x.signature.ins x.foundation x.only) (renamed_alike f.object x.foundation only.0 x.signature.outs x.only_outs)
+      rw (x.ins, x.outs, only.2, x.only, abstracted_objects f.stobj x.signature.ins x.foundation x.only) (renamed_alike f.stobj x.foundation only.0 x.signature.outs x.only_outs)
 
   -- ---- exports
 
@@ -111,7 +111,7 @@ module _ (w : World) (threaded : IsThreaded w) (packages : List Package) (limit 
   only_inside : (y : ℕ) → IsStobj scope y → (x : ℕ) → IsStobj (only y) x → IsStobj scope x
   only_inside y here x i = subst (IsStobj scope) (sym (only_is y x i)) here
 
-  -- after the exec function, which had the object alone: values are committed, and at a stop all is as it was
+  -- after the exec function, which had the stobj alone: values are committed, and at a stop all is as it was
   meets_inside : (y : ℕ) → IsStobj scope y → (outs : List Out) (values : List (Shown ℕ)) → first_stobj values ≡ Some y → (name : ℕ) (s : State ℕ) (t : StateOf (Store ℕ)) (before : Stobjs ℕ) (places : Places) → s.stobjs ≡ before → AreSame s t
       → (p : Outcome ℕ) (q : OutcomeOf ℕ (Store ℕ))
       → Meet w (AreOutputs (only y) outs) (May (only y) outs) (IsStobj (only y)) (beginning lists_keeping (one_more_call s)) (beginning places_keeping (one_more_call t)) p q
@@ -158,7 +158,7 @@ module _ (w : World) (threaded : IsThreaded w) (packages : List Package) (limit 
       → MeetsIn scope f.signature values s t (checked_export lists_keeping limit f values before (exec_called rules ev values f.exec) s) (checked_export places_keeping limit f values places (exec_called place_rules el values f.exec) t)
   meets_export f x values a r s t before places k stands e =
       let b : AreArguments w scope x.signature.ins values =
-      exec_arguments f.object x.foundation x.signature.ins values x.alike (only_objects x.foundation x.signature.ins x.only) (subst (λ (ins : List Out). AreArguments w scope ins values) x.ins a) in
+      exec_arguments f.stobj x.foundation x.signature.ins values x.alike (only_objects x.foundation x.signature.ins x.only) (subst (λ (ins : List Out). AreArguments w scope ins values) x.ins a) in
       let one : (y : ℕ) × (first_stobj values ≡ Some y) × (names_in values ≡ y ∷ []) × IsStobj scope y × (layout_of w x.foundation ≡ layout_of w y)
       = only_argument w threaded packages limit ev el h scope x.foundation x.signature.ins values b x.only in
       let y : ℕ = one.0 in
@@ -186,7 +186,7 @@ module _ (w : World) (threaded : IsThreaded w) (packages : List Package) (limit 
   meets_cut outs n m s t (Stops stop origin u) Unknown e h = absurd h
   meets_cut outs n m s t Unknown q e h = absurd h
 
-  -- ---- functions of abstract objects
+  -- ---- functions of abstract stobjs
 
   meets_abstract : (name : ℕ) (f : FunctionOfAbstract) (role : AbstractRole) (values : List (Shown ℕ)) → definition w name ≡ Some (OfAbstract f) → f.role ≡ role → AreArguments w scope f.signature.ins values → repeats (names_in values) ≡ false
       → (s : State ℕ) (t : StateOf (Store ℕ)) → Stands w scope s.stobjs t.stobjs → AreSame s t
@@ -201,7 +201,7 @@ module _ (w : World) (threaded : IsThreaded w) (packages : List Package) (limit 
       let outs : List Out = results f.signature.ins values f.signature.outs in
       let on : (State ℕ → Outcome ℕ) = checked_export lists_keeping limit f values s.stobjs (exec_called rules ev values f.exec) in
       let at : (StateOf (Store ℕ) → OutcomeOf ℕ (Store ℕ)) = checked_export places_keeping limit f values t.stobjs.scope (exec_called place_rules el values f.exec) in
-      meets_cut outs s.outer t.outer s t (guarded rules ev f.name f.formals f.guard values on s) (guarded place_rules el f.name f.formals f.guard values at t) e.outer
+      meets_cut outs s.outer t.outer s t (with_guard rules ev f.name f.formals f.guard values on s) (with_guard place_rules el f.name f.formals f.guard values at t) e.outer
       (meets_guarded w threaded packages limit ev el h scope f.name f.formals f.signature.ins f.guard values (AreOutputs scope outs) outs on at
       x.formals x.distinct a r x.guard s t stands e (λ u v same i j. meets_export f x values a r u v s.stobjs t.stobjs.scope same i j))
 

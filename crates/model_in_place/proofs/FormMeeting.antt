@@ -13,14 +13,14 @@ use Rattle.model_terms.specs.Classes as classes
 use Rattle.model_terms.specs.Classes.{has, repeats}
 use Rattle.model_terms.specs.Scopes.{kind_in, kind_of, in_scope, name_kinds, binding}
 use Rattle.model_terms.specs.Sites.{here, one_ordinary}
-use Rattle.model_terms.specs.Nested.{same_kinds, objects_expected}
+use Rattle.model_terms.specs.Nested.{same_kinds, stobjs_expected}
 use Rattle.model_terms.specs.Rules.{any_wrong_part}
-use Rattle.model_eval.specs.Outcomes.{Shown, Plain, Stobj, Depth, StateOf, State, OutcomeOf, Outcome, Gives, stops_here}
+use Rattle.model_eval.specs.Outcomes.{Shown, Plain, StobjNamed, Depth, StateOf, State, OutcomeOf, Outcome, Gives, stops_here}
 use Rattle.model_eval.specs.PlacesKeeping.{Store}
-use Rattle.model_eval.specs.Scopes.{Variables, variable_in, bound}
+use Rattle.model_eval.specs.Variables.{Variables, variable_in, bound}
 use Rattle.model_eval.specs.Evaluated.{Evaluator, EvaluatorOf, is_false, leaf, leaf_or, opened, evaluated}
 use Rattle.model_accepted.specs.Threaded.{IsFormed, AreFormed, Suits, IsThreaded}
-use Rattle.model_accepted.specs.Scopes.{IsStobj, IsOfKind, AreVariables, IsOutput, AreOutputs}
+use Rattle.model_accepted.specs.StobjScopes.{IsStobj, IsOfKind, AreVariables, IsOutput, AreOutputs}
 use Rattle.model_in_place.specs.Standing.{Stands, AreSame}
 use Rattle.model_in_place.specs.Writes.{Meet}
 use Rattle.model_accepted.specs.Accepted.{Accepted, PartsAccepted}
@@ -32,7 +32,7 @@ use Rattle.model_in_place.proofs.PartMeeting.{meets_parts, meets_call}
 use Rattle.model_in_place.proofs.LocalMeeting.{meets_local}
 use Rattle.model_in_place.proofs.KidMeeting.{meets_stobj_let}
 
-pub expected_may : (scope : Scope) (kinds expected : List Out) (x : ℕ) → objects_expected kinds expected ≡ true → May scope kinds x → May scope expected x
+pub expected_may : (scope : Scope) (kinds expected : List Out) (x : ℕ) → stobjs_expected kinds expected ≡ true → May scope kinds x → May scope expected x
 expected_may scope kinds expected x e m = (all_has (has (classes.stobjs expected)) (classes.stobjs kinds) x e m.0, m.1)
 
 pub length_kinds : (c : World) (names : List ℕ) → length (name_kinds c names) ≡ length names
@@ -57,7 +57,7 @@ module _ (w : World) (threaded : IsThreaded w) (packages : List Package) (limit 
         where
           ordinary : (v : Shown ℕ) → IsOfKind x Ordinary v → IsOutput scope Ordinary v
           ordinary (Plain o) k = tt
-          ordinary (Stobj y) k = absurd k
+          ordinary (StobjNamed y) k = absurd k
       go (Some (worlds.Stobj z)) e f =
           let is : IsOfKind x (worlds.Stobj z) (variable_in by_number variables x) = are.each x (worlds.Stobj z) e in
           subst (λ (v : Shown ℕ). IsOutput scope (worlds.Stobj z) v) (sym is.1) (sym is.0, subst (λ (y : ℕ). kind_in scope y ≡ Some (worlds.Stobj z)) (sym is.0) e)
@@ -77,7 +77,7 @@ module _ (w : World) (threaded : IsThreaded w) (packages : List Package) (limit 
   meets_leaf c mode scope (Mv parts) formal expected variables s t a b k suits n all formed are stands e = k suits n all formed are stands e
   meets_leaf c mode scope (MvLet names bind body) formal expected variables s t a b k suits n all formed are stands e = k suits n all formed are stands e
   meets_leaf c mode scope (StobjLet names forms vars producer consumer) formal expected variables s t a b k suits n all formed are stands e = k suits n all formed are stands e
-  meets_leaf c mode scope (WithLocal object names producer body) formal expected variables s t a b k suits n all formed are stands e = k suits n all formed are stands e
+  meets_leaf c mode scope (WithLocal stobj names producer body) formal expected variables s t a b k suits n all formed are stands e = k suits n all formed are stands e
   meets_leaf c mode scope (MustBeEqual logic exec) formal expected variables s t a b k suits n all formed are stands e = k suits n all formed are stands e
   meets_leaf c mode scope (Call f actuals) formal expected variables s t a b k suits n all formed are stands e = k suits n all formed are stands e
 
@@ -120,7 +120,7 @@ module _ (w : World) (threaded : IsThreaded w) (packages : List Package) (limit 
         branch false u v first second = first
     meets_opened c mode scope (Let names forms body) formal expected variables s t suits n all formed are stands e =
         let parts : PartsAccepted c mode scope (name_kinds c names) forms × Accepted c mode (binding c scope names) body None expected = of_let c mode scope formal expected names forms body all in
-        let out : objects_expected (name_kinds c names) expected ≡ true = not_false (objects_expected (name_kinds c names) expected) (s6 c mode (here (Let names forms body) scope formal expected) n all.0) in
+        let out : stobjs_expected (name_kinds c names) expected ≡ true = not_false (stobjs_expected (name_kinds c names) expected) (s6 c mode (here (Let names forms body) scope formal expected) n all.0) in
         meets_parts w threaded packages limit ev el h c mode scope suits n variables are (name_kinds c names) forms [] (AreOutputs scope expected) expected
         (λ values after. ev body (bound names values variables) after) (λ values after. el body (bound names values variables) after) s t
         parts.0 formed.1 (formed.0 ∙ sym (length_kinds c names)) (λ x i. expected_may scope (name_kinds c names) expected x out i) stands e
@@ -137,7 +137,7 @@ module _ (w : World) (threaded : IsThreaded w) (packages : List Package) (limit 
         (meets_give w (AreOutputs scope expected) (May scope expected) (IsStobj scope) u v vs a moves.same))
     meets_opened c mode scope (MvLet names form body) formal expected variables s t suits n all formed are stands e =
         let parts : Accepted c mode scope form None (name_kinds c names) × Accepted c mode (binding c scope names) body None expected = of_mv_let c mode scope formal expected names form body all in
-        let out : objects_expected (name_kinds c names) expected ≡ true = not_false (objects_expected (name_kinds c names) expected) (s6 c mode (here (MvLet names form body) scope formal expected) n all.0) in
+        let out : stobjs_expected (name_kinds c names) expected ≡ true = not_false (stobjs_expected (name_kinds c names) expected) (s6 c mode (here (MvLet names form body) scope formal expected) n all.0) in
         meets_then w (AreOutputs scope (name_kinds c names)) (AreOutputs scope expected) (May scope (name_kinds c names)) (May scope expected) (IsStobj scope) s t (ev form variables s) (el form variables t)
         (λ values after. ev body (bound names values variables) after) (λ values after. el body (bound names values variables) after)
         (λ x i. expected_may scope (name_kinds c names) expected x out i) (λ x i. i.1)
@@ -146,8 +146,8 @@ module _ (w : World) (threaded : IsThreaded w) (packages : List Package) (limit 
         meets_body c mode scope names body expected variables vs u v suits n parts.1 formed.1 are a (stands_moved w scope (May scope (name_kinds c names)) s t u v (λ x i. i.1) stands moves) moves.same)
     meets_opened c mode scope (StobjLet names forms vars producer consumer) formal expected variables s t suits n all formed are stands e =
         meets_stobj_let w threaded packages limit ev el h c mode scope suits n variables are names forms vars producer consumer formal expected s t all formed.0 formed.1 stands e
-    meets_opened c mode scope (WithLocal object names producer body) formal expected variables s t suits n all formed are stands e =
-        meets_local w threaded packages limit ev el h c mode scope suits n variables are object names producer body formal expected s t all formed.0 formed.1 stands e
+    meets_opened c mode scope (WithLocal stobj names producer body) formal expected variables s t suits n all formed are stands e =
+        meets_local w threaded packages limit ev el h c mode scope suits n variables are stobj names producer body formal expected s t all formed.0 formed.1 stands e
     meets_opened c mode scope (MustBeEqual logic exec) formal expected variables s t suits n all formed are stands e =
         h.meets c mode scope logic None expected suits n (of_must_be_equal c mode scope formal expected logic exec all).0 formed.0 variables s t are stands e
     meets_opened c mode scope (Call f actuals) formal expected variables s t suits n all formed are stands e =

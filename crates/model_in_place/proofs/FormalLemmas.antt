@@ -6,20 +6,20 @@ use Rattle.std.specs.List.{zip}
 use Rattle.std.proofs.lemmas.Bool.{eqb-true}
 use Rattle.model_prims.specs.Kinds.{by_number}
 use Rattle.model_lists.specs.Layouts.{Layout}
-use Rattle.model_lists.specs.Standing.{HasFields}
+use Rattle.model_lists.specs.LiveLists.{HasFields}
 use Rattle.model_terms.specs.Worlds.{World, Out, Ordinary, Scope}
 use Rattle.model_terms.specs.Worlds as worlds
 use Rattle.model_terms.specs.Classes as classes
 use Rattle.model_terms.specs.Classes.{has, repeats, actual_of, renamed_out}
 use Rattle.model_terms.specs.Scopes.{kind_in}
-use Rattle.model_eval.specs.Outcomes.{Shown, Plain, Stobj, Stobjs}
+use Rattle.model_eval.specs.Outcomes.{Shown, Plain, StobjNamed, Stobjs}
 use Rattle.model_eval.specs.PlacesKeeping.{Place, Store, place_of, list_at}
-use Rattle.model_eval.specs.Scopes.{list_of, variable_in, inner_variables, actual_for, outer_value}
+use Rattle.model_eval.specs.Variables.{list_of, variable_in, inner_variables, actual_for, outer_value}
 use Rattle.model_eval_laws.specs.Scope.{names, is_among}
 use Rattle.model_eval_laws.proofs.Lists.{same_number}
 use Rattle.model_places.specs.Places.{IsPlace, AreApart}
 use Rattle.model_accepted.specs.Threaded.{AreFormals, formal_entries, layout_of, Fits}
-use Rattle.model_accepted.specs.Scopes.{IsStobj, IsOfKind, AreOutputs}
+use Rattle.model_accepted.specs.StobjScopes.{IsStobj, IsOfKind, AreOutputs}
 use Rattle.model_in_place.specs.Standing.{Stands}
 use Rattle.model_in_place.specs.Calls.{Pairs, pairs_of, names_in, firsts, seconds, actual, lists_for, places_for, ArePairs, AreArguments}
 use Rattle.model_accepted.proofs.AcceptLemmas.{false_true, neither}
@@ -32,7 +32,7 @@ pub firsts_in : (xs : List ℕ) (vs : List (Shown ℕ)) (x : ℕ) → has xs x �
 firsts_in [] vs x h = refl
 firsts_in (y ∷ ys) [] x h = refl
 firsts_in (y ∷ ys) (Plain o ∷ vs) x h = firsts_in ys vs x (neither (nat_eq x y) (has ys x) h).1
-firsts_in (y ∷ ys) (Stobj z ∷ vs) x h =
+firsts_in (y ∷ ys) (StobjNamed z ∷ vs) x h =
     let parts : (nat_eq x y ≡ false) × (has ys x ≡ false) = neither (nat_eq x y) (has ys x) h in
     rw (parts.0, firsts_in ys vs x parts.1) refl
 
@@ -40,7 +40,7 @@ pub firsts_distinct : (xs : List ℕ) (vs : List (Shown ℕ)) → repeats xs ≡
 firsts_distinct [] vs h = refl
 firsts_distinct (y ∷ ys) [] h = refl
 firsts_distinct (y ∷ ys) (Plain o ∷ vs) h = firsts_distinct ys vs (neither (has ys y) (repeats ys) h).1
-firsts_distinct (y ∷ ys) (Stobj z ∷ vs) h =
+firsts_distinct (y ∷ ys) (StobjNamed z ∷ vs) h =
     let parts : (has ys y ≡ false) × (repeats ys ≡ false) = neither (has ys y) (repeats ys) h in
     rw (firsts_in ys vs y parts.0, firsts_distinct ys vs parts.1) refl
 
@@ -59,9 +59,9 @@ module _ (w : World) (scope : Scope) where
   pairs_are (x ∷ xs) [] vs f a = absurd f
   pairs_are (x ∷ xs) (k ∷ ks) [] f a = absurd a
   pairs_are (x ∷ xs) (Ordinary ∷ ks) (Plain o ∷ vs) f a = pairs_are xs ks vs f a.1
-  pairs_are (x ∷ xs) (Ordinary ∷ ks) (Stobj y ∷ vs) f a = absurd a.0
+  pairs_are (x ∷ xs) (Ordinary ∷ ks) (StobjNamed y ∷ vs) f a = absurd a.0
   pairs_are (x ∷ xs) (worlds.Stobj z ∷ ks) (Plain o ∷ vs) f a = absurd a.0
-  pairs_are (x ∷ xs) (worlds.Stobj z ∷ ks) (Stobj y ∷ vs) f a = (a.0.0, ap (layout_of w) (sym f.0) ∙ a.0.1, pairs_are xs ks vs f.1 a.1)
+  pairs_are (x ∷ xs) (worlds.Stobj z ∷ ks) (StobjNamed y ∷ vs) f a = (a.0.0, ap (layout_of w) (sym f.0) ∙ a.0.1, pairs_are xs ks vs f.1 a.1)
 
   pub seconds_are : (xs : List ℕ) (ks : List Out) (vs : List (Shown ℕ)) → AreFormals xs ks → AreArguments w scope ks vs → seconds (pairs_of xs vs) ≡ names_in vs
   seconds_are [] [] [] f a = refl
@@ -70,9 +70,9 @@ module _ (w : World) (scope : Scope) where
   seconds_are (x ∷ xs) [] vs f a = absurd f
   seconds_are (x ∷ xs) (k ∷ ks) [] f a = absurd a
   seconds_are (x ∷ xs) (Ordinary ∷ ks) (Plain o ∷ vs) f a = seconds_are xs ks vs f a.1
-  seconds_are (x ∷ xs) (Ordinary ∷ ks) (Stobj y ∷ vs) f a = absurd a.0
+  seconds_are (x ∷ xs) (Ordinary ∷ ks) (StobjNamed y ∷ vs) f a = absurd a.0
   seconds_are (x ∷ xs) (worlds.Stobj z ∷ ks) (Plain o ∷ vs) f a = absurd a.0
-  seconds_are (x ∷ xs) (worlds.Stobj z ∷ ks) (Stobj y ∷ vs) f a = ap (λ (ns : List ℕ). y ∷ ns) (seconds_are xs ks vs f.1 a.1)
+  seconds_are (x ∷ xs) (worlds.Stobj z ∷ ks) (StobjNamed y ∷ vs) f a = ap (λ (ns : List ℕ). y ∷ ns) (seconds_are xs ks vs f.1 a.1)
 
   pub zip_is : (xs : List ℕ) (ks : List Out) (vs : List (Shown ℕ)) → AreFormals xs ks → AreArguments w scope ks vs → zip (classes.stobjs ks) (names_in vs) ≡ pairs_of xs vs
   zip_is [] [] [] f a = refl
@@ -81,9 +81,9 @@ module _ (w : World) (scope : Scope) where
   zip_is (x ∷ xs) [] vs f a = absurd f
   zip_is (x ∷ xs) (k ∷ ks) [] f a = absurd a
   zip_is (x ∷ xs) (Ordinary ∷ ks) (Plain o ∷ vs) f a = zip_is xs ks vs f a.1
-  zip_is (x ∷ xs) (Ordinary ∷ ks) (Stobj y ∷ vs) f a = absurd a.0
+  zip_is (x ∷ xs) (Ordinary ∷ ks) (StobjNamed y ∷ vs) f a = absurd a.0
   zip_is (x ∷ xs) (worlds.Stobj z ∷ ks) (Plain o ∷ vs) f a = absurd a.0
-  zip_is (x ∷ xs) (worlds.Stobj z ∷ ks) (Stobj y ∷ vs) f a = rw (f.0, zip_is xs ks vs f.1 a.1) refl
+  zip_is (x ∷ xs) (worlds.Stobj z ∷ ks) (StobjNamed y ∷ vs) f a = rw (f.0, zip_is xs ks vs f.1 a.1) refl
 
   pub formal_first : (xs : List ℕ) (ks : List Out) (vs : List (Shown ℕ)) (x : ℕ) → AreFormals xs ks → AreArguments w scope ks vs → IsStobj (formal_entries xs ks) x → has (firsts (pairs_of xs vs)) x ≡ true
   formal_first [] ks vs x f a h = none_some h
@@ -96,9 +96,9 @@ module _ (w : World) (scope : Scope) where
       go (Some k) b e i = i e
       go None true e i = cc
       go None false e i = none_some e
-  formal_first (y ∷ ys) (Ordinary ∷ ks) (Stobj z ∷ vs) x f a h = absurd a.0
+  formal_first (y ∷ ys) (Ordinary ∷ ks) (StobjNamed z ∷ vs) x f a h = absurd a.0
   formal_first (y ∷ ys) (worlds.Stobj q ∷ ks) (Plain o ∷ vs) x f a h = absurd a.0
-  formal_first (y ∷ ys) (worlds.Stobj q ∷ ks) (Stobj z ∷ vs) x f a h = go (kind_in (formal_entries ys ks) x) (nat_eq x y) h (formal_first ys ks vs x f.1 a.1)
+  formal_first (y ∷ ys) (worlds.Stobj q ∷ ks) (StobjNamed z ∷ vs) x f a h = go (kind_in (formal_entries ys ks) x) (nat_eq x y) h (formal_first ys ks vs x f.1 a.1)
     where
       go : (k : Option Out) (b : Bool) → option_or k (if b then Some (worlds.Stobj q) else None) ≡ Some (worlds.Stobj x) → (k ≡ Some (worlds.Stobj x) → has (firsts (pairs_of ys vs)) x ≡ true)
           → (b || has (firsts (pairs_of ys vs)) x) ≡ true
@@ -126,19 +126,19 @@ module _ (w : World) (scope : Scope) where
           nothing_more : (k : Option Out) → k ≡ option_or k None
           nothing_more None = refl
           nothing_more (Some k) = refl
-  formal_variables (y ∷ ys) (Ordinary ∷ ks) (Stobj z ∷ vs) f r a x m h = absurd a.0
+  formal_variables (y ∷ ys) (Ordinary ∷ ks) (StobjNamed z ∷ vs) f r a x m h = absurd a.0
   formal_variables (y ∷ ys) (worlds.Stobj q ∷ ks) (Plain o ∷ vs) f r a x m h = absurd a.0
-  formal_variables (y ∷ ys) (worlds.Stobj q ∷ ks) (Stobj z ∷ vs) f r a x m h =
+  formal_variables (y ∷ ys) (worlds.Stobj q ∷ ks) (StobjNamed z ∷ vs) f r a x m h =
       let parts : (has ys y ≡ false) × (repeats ys ≡ false) = neither (has ys y) (repeats ys) r in
       go (nat_eq x y) refl parts.0 h (formal_variables ys ks vs f.1 parts.1 a.1 x m)
     where
       go : (b : Bool) → nat_eq x y ≡ b → has ys y ≡ false → option_or (kind_in (formal_entries ys ks) x) (if b then Some (worlds.Stobj q) else None) ≡ Some m
           → (kind_in (formal_entries ys ks) x ≡ Some m → IsOfKind x m (variable_in by_number (inner_variables ys vs) x))
-          → IsOfKind x m (if b then Stobj y else variable_in by_number (inner_variables ys vs) x)
+          → IsOfKind x m (if b then StobjNamed y else variable_in by_number (inner_variables ys vs) x)
       go true e d g i =
-          subst (λ (k : Out). IsOfKind x k (Stobj y))
+          subst (λ (k : Out). IsOfKind x k (StobjNamed y))
           (some_same (sym (ap (λ (k : Option Out). option_or k (Some (worlds.Stobj q))) (kind_missing ys ks x (ap (has ys) (eqb-true x y e) ∙ d))) ∙ g))
-          (f.0 ∙ sym (eqb-true x y e), ap Stobj (sym (eqb-true x y e)))
+          (f.0 ∙ sym (eqb-true x y e), ap StobjNamed (sym (eqb-true x y e)))
       go false e d g i = i (nothing_more (kind_in (formal_entries ys ks) x) ∙ g)
         where
           nothing_more : (k : Option Out) → k ≡ option_or k None
@@ -188,9 +188,9 @@ module _ (w : World) (scope : Scope) where
   outputs_back xs ks vs [] (v ∷ values) f a h = absurd h
   outputs_back xs ks vs (k ∷ outs) [] f a h = absurd h
   outputs_back xs ks vs (Ordinary ∷ outs) (Plain o ∷ values) f a h = (tt, outputs_back xs ks vs outs values f a h.1)
-  outputs_back xs ks vs (Ordinary ∷ outs) (Stobj y ∷ values) f a h = absurd h.0
+  outputs_back xs ks vs (Ordinary ∷ outs) (StobjNamed y ∷ values) f a h = absurd h.0
   outputs_back xs ks vs (worlds.Stobj x ∷ outs) (Plain o ∷ values) f a h = absurd h.0
-  outputs_back xs ks vs (worlds.Stobj x ∷ outs) (Stobj y ∷ values) f a h = (
+  outputs_back xs ks vs (worlds.Stobj x ∷ outs) (StobjNamed y ∷ values) f a h = (
     (
       ap (actual_for xs vs) h.0.0 ∙ (actual_for_is xs vs x ∙ sym (actual_of_is (pairs_of xs vs) x)),
       subst (IsStobj scope) (sym (actual_of_is (pairs_of xs vs) x)) (pair_object w scope (pairs_of xs vs) x (pairs_are xs ks vs f a) (formal_first xs ks vs x f a h.0.1)).0,

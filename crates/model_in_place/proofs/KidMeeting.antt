@@ -12,19 +12,19 @@ use Rattle.model_terms.specs.declared.rule.Mode.TheVariants.{Logic}
 use Rattle.model_terms.specs.Cores.{Core, Cores, none, more, Reached, StobjLet}
 use Rattle.model_terms.specs.Worlds.{World, definition, Out, Ordinary, Scope}
 use Rattle.model_terms.specs.Worlds as worlds
-use Rattle.model_terms.specs.Classes.{has, is_object_name}
+use Rattle.model_terms.specs.Classes.{has, is_stobj_name}
 use Rattle.model_terms.specs.Scopes.{kind_in, kind_of, name_kinds, producer_scope, consumer_scope}
-use Rattle.model_terms.specs.Children.{Holds, One, Many}
+use Rattle.model_terms.specs.Accessors.{HeldStobjs, One, Many}
 use Rattle.model_terms.specs.Sites.{here, parent_in}
-use Rattle.model_terms.specs.Nested.{BoundChild, bound_children, child_object, is_stobj, stobj_let_holds}
-use Rattle.model_eval.specs.Outcomes.{Shown, Stobj, Guard, StateOf, State, OutcomeOf, Outcome, stops_here, then_with, one_more_call}
+use Rattle.model_terms.specs.Nested.{BoundChild, bound_children, child_stobj, is_stobj, stobj_let_holds}
+use Rattle.model_eval.specs.Outcomes.{Shown, StobjNamed, Guard, StateOf, State, OutcomeOf, Outcome, stops_here, then_with, one_more_call}
 use Rattle.model_eval.specs.Keeping.{Loan}
 use Rattle.model_eval.specs.PlacesKeeping.{Store}
-use Rattle.model_eval.specs.Scopes.{Variables, variable_in, bound, list_of}
-use Rattle.model_eval.specs.Children.{field_of, is_reached, are_twins, indices, loan_values}
+use Rattle.model_eval.specs.Variables.{Variables, variable_in, bound, list_of}
+use Rattle.model_eval.specs.Lending.{field_number, is_reached, are_twins, indices, loan_values}
 use Rattle.model_eval.specs.Evaluated.{Evaluator, EvaluatorOf, stobj_let_word, leaf, leaf_object, index_of, loan_of, borrowing, borrowed_from, borrowed, all_borrowed, lending, loaned_variables, producing, with_loans}
 use Rattle.model_accepted.specs.Threaded.{IsFormed, layout_of, IsField, IsHeld, Reaches, Suits, IsThreaded}
-use Rattle.model_accepted.specs.Scopes.{IsStobj, IsOfKind, AreVariables, AreOutputs}
+use Rattle.model_accepted.specs.StobjScopes.{IsStobj, IsOfKind, AreVariables, AreOutputs}
 use Rattle.model_in_place.specs.Standing.{Stands, AreSame}
 use Rattle.model_in_place.specs.Writes.{Meet}
 use Rattle.model_accepted.specs.Loans.{children, AreLent}
@@ -46,10 +46,10 @@ module _ (w : World) (threaded : IsThreaded w) (packages : List Package) (limit 
     (variables : Variables ℕ) (are : AreVariables scope variables) where
   -- ---- the bindings
 
-  module _ (p : ℕ) (parent : StobjList ℕ) (object : IsStobj scope p) (shown : variable_in by_number variables p ≡ Stobj p) where
+  module _ (p : ℕ) (parent : StobjList ℕ) (stobj : IsStobj scope p) (shown : variable_in by_number variables p ≡ StobjNamed p) where
     -- a loan that was reached is one of a bound child
-    pub loan_is : (x : ℕ) (f : Core) (b : BoundChild) (i : IsBinding c x f b) → b.parent ≡ p → layout_of w b.accessor.object ≡ layout_of w p → layout_of w (child_object b.accessor.holds) ≡ layout_of w b.name
-        → is_reached (index_of (on_lists w threaded packages limit) i.by.index variables) (item (field_of (definition w i.by.accessor)) parent) ≡ true
+    pub loan_is : (x : ℕ) (f : Core) (b : BoundChild) (i : IsBinding c x f b) → b.parent ≡ p → layout_of w b.accessor.stobj ≡ layout_of w p → layout_of w (child_stobj b.accessor.holds) ≡ layout_of w b.name
+        → is_reached (index_of (on_lists w threaded packages limit) i.by.index variables) (item (field_number (definition w i.by.accessor)) parent) ≡ true
         → IsLoan w p parent b (loan_of (on_lists w threaded packages limit) x p i.by variables)
     loan_is x f b i same alike named reached_it =
         let reaches : Reaches w i.by.accessor b.accessor = suits.accessors i.by.accessor b.accessor i.found in
@@ -58,7 +58,7 @@ module _ (w : World) (threaded : IsThreaded w) (packages : List Package) (limit 
           from = refl;
           number = reaches.number;
           field = reaches.field;
-          there = subst (λ (k : Layout ℕ). IsField (field_of (definition w i.by.accessor)) k reaches.field) alike (subst (λ (m : ℕ). IsField m (layout_of w b.accessor.object) reaches.field) (sym reaches.number) reaches.there);
+          there = subst (λ (k : Layout ℕ). IsField (field_number (definition w i.by.accessor)) k reaches.field) alike (subst (λ (m : ℕ). IsField m (layout_of w b.accessor.stobj) reaches.field) (sym reaches.number) reaches.there);
           kind = go (index_kind b.accessor.holds i.by.index i.takes) reaches.field reaches.held;
         }
       where
@@ -71,25 +71,25 @@ module _ (w : World) (threaded : IsThreaded w) (packages : List Package) (limit 
             inl (
               ap (λ (m : Option Core). index_of (on_lists w threaded packages limit) m variables) k.2,
               i.index ∙ k.2,
-              subst (λ (m : Holds). IsHeld w m field) k.1 held ∙ (ap (λ (m : Holds). layout_of w (child_object m)) (sym k.1) ∙ (named ∙ ap (layout_of w) i.name)),
+              subst (λ (m : HeldStobjs). IsHeld w m field) k.1 held ∙ (ap (λ (m : HeldStobjs). layout_of w (child_stobj m)) (sym k.1) ∙ (named ∙ ap (layout_of w) i.name)),
             )
         go (inr k) field held =
-            let number : (m : ℕ) × (leaf_object (on_lists w threaded packages limit) (leaf (on_lists w threaded packages limit) k.1 variables) ≡ Integer (pos m)) × (m < size (item (field_of (definition w i.by.accessor)) parent))
-            = reached_number (leaf_object (on_lists w threaded packages limit) (leaf (on_lists w threaded packages limit) k.1 variables)) (size (item (field_of (definition w i.by.accessor)) parent))
-            (subst (λ (m : Option Core). is_reached (index_of (on_lists w threaded packages limit) m variables) (item (field_of (definition w i.by.accessor)) parent) ≡ true) k.3 reached_it) in
-            let many : (m : ℕ) × (field ≡ Children m (layout_of w k.0)) = subst (λ (m : Holds). IsHeld w m field) k.2 held in
+            let number : (m : ℕ) × (leaf_object (on_lists w threaded packages limit) (leaf (on_lists w threaded packages limit) k.1 variables) ≡ Integer (pos m)) × (m < size (item (field_number (definition w i.by.accessor)) parent))
+            = reached_number (leaf_object (on_lists w threaded packages limit) (leaf (on_lists w threaded packages limit) k.1 variables)) (size (item (field_number (definition w i.by.accessor)) parent))
+            (subst (λ (m : Option Core). is_reached (index_of (on_lists w threaded packages limit) m variables) (item (field_number (definition w i.by.accessor)) parent) ≡ true) k.3 reached_it) in
+            let many : (m : ℕ) × (field ≡ Children m (layout_of w k.0)) = subst (λ (m : HeldStobjs). IsHeld w m field) k.2 held in
             inr (
               number.0,
               many.0,
               ap (λ (m : Option Core). index_of (on_lists w threaded packages limit) m variables) k.3 ∙ ap (λ (o : Object ℕ). Some o) number.1,
               number.2,
-              many.1 ∙ ap (λ (m : Layout ℕ). Children many.0 m) (ap (λ (m : Holds). layout_of w (child_object m)) (sym k.2) ∙ (named ∙ ap (layout_of w) i.name)),
+              many.1 ∙ ap (λ (m : Layout ℕ). Children many.0 m) (ap (λ (m : HeldStobjs). layout_of w (child_stobj m)) (sym k.2) ∙ (named ∙ ap (layout_of w) i.name)),
             )
 
     -- one accessor's call
     meets_one : (x : ℕ) (by : Reached) (Are : List (Shown ℕ) → Type 0) (expected : List Out) (go : Loan ℕ → State ℕ → Outcome ℕ) (to : Loan ℕ → StateOf (Store ℕ) → OutcomeOf ℕ (Store ℕ)) (s : State ℕ) (t : StateOf (Store ℕ))
-        → variable_in by_number variables by.parent ≡ Stobj p → list_of s.stobjs p ≡ parent → Stands w scope s.stobjs t.stobjs → AreSame s t
-        → (is_reached (index_of (on_lists w threaded packages limit) by.index variables) (item (field_of (definition w by.accessor)) parent) ≡ true → AreSame (one_more_call s) (one_more_call t)
+        → variable_in by_number variables by.parent ≡ StobjNamed p → list_of s.stobjs p ≡ parent → Stands w scope s.stobjs t.stobjs → AreSame s t
+        → (is_reached (index_of (on_lists w threaded packages limit) by.index variables) (item (field_number (definition w by.accessor)) parent) ≡ true → AreSame (one_more_call s) (one_more_call t)
         → Meet w Are (May scope expected) (IsStobj scope) (one_more_call s) (one_more_call t) (go (loan_of (on_lists w threaded packages limit) x p by variables) (one_more_call s)) (to (loan_of (on_lists w threaded packages limit) x p by variables) (one_more_call t)))
         → Meet w Are (May scope expected) (IsStobj scope) s t (borrowed (on_lists w threaded packages limit) x (Some by) variables go s) (borrowed (at_places w threaded packages limit) x (Some by) variables to t)
     meets_one x by Are expected go to s t from same stands e k =
@@ -101,7 +101,7 @@ module _ (w : World) (threaded : IsThreaded w) (packages : List Package) (limit 
         (borrowing (at_places w threaded packages limit) by.accessor l (to l) (one_more_call t))) (sym same)
         (subst (λ (m : StobjList ℕ). Meet w Are (May scope expected) (IsStobj scope) (one_more_call s) (one_more_call t)
         (if is_reached l.index (item l.field parent) then go l (one_more_call s) else stops_here (Guard by.accessor (loan_values l)) (one_more_call s))
-        (if is_reached l.index (item l.field m) then to l (one_more_call t) else stops_here (Guard by.accessor (loan_values l)) (one_more_call t))) (sym same ∙ stands.same p object)
+        (if is_reached l.index (item l.field m) then to l (one_more_call t) else stops_here (Guard by.accessor (loan_values l)) (one_more_call t))) (sym same ∙ stands.same p stobj)
         (by_test (is_reached l.index (item l.field parent)) refl i)))))
       where
         l : Loan ℕ
@@ -128,7 +128,7 @@ module _ (w : World) (threaded : IsThreaded w) (packages : List Package) (limit 
         let is : AreBindings c x xs f fs bs = bindings_are c x xs f fs bs bind in
         let all : AreBound c p (is.first ∷ is.others) = subst (AreBound c p) is.all a in
         let l : Loan ℕ = loan_of (on_lists w threaded packages limit) x p is.is.by variables in
-        let from : variable_in by_number variables is.is.by.parent ≡ Stobj p = ap (variable_in by_number variables) (sym is.is.parent ∙ all.0) ∙ shown in
+        let from : variable_in by_number variables is.is.by.parent ≡ StobjNamed p = ap (variable_in by_number variables) (sym is.is.parent ∙ all.0) ∙ shown in
         subst (λ (r : Option Reached). Meet w Are (May scope expected) (IsStobj scope) s t
         (borrowed (on_lists w threaded packages limit) x r variables (λ loan after. all_borrowed (on_lists w threaded packages limit) xs fs variables (done ++ loan ∷ []) go after) s)
         (borrowed (at_places w threaded packages limit) x r variables (λ loan after. all_borrowed (at_places w threaded packages limit) xs fs variables (done ++ loan ∷ []) to after) t))
@@ -139,14 +139,14 @@ module _ (w : World) (threaded : IsThreaded w) (packages : List Package) (limit 
         (λ ls every u v loans q same_list stands_then same_then.
         k (l ∷ ls) every u v
         (subst (λ (m : List BoundChild). AreLoans w p parent m (l ∷ ls)) (sym is.all)
-        (loan_is x f is.first is.is all.0 (suits.layouts is.first.accessor.object p all.1) (suits.layouts (child_object is.first.accessor.holds) is.first.name all.2) reached_it, loans))
+        (loan_is x f is.first is.is all.0 (suits.layouts is.first.accessor.stobj p all.1) (suits.layouts (child_stobj is.first.accessor.holds) is.first.name all.2) reached_it, loans))
         (q ∙ append_assoc done (l ∷ []) ls) same_list stands_then same_then)))
 
-  -- the parent of the rule is the object of its variable
-  pub parent_is : (p : ℕ) → is_stobj (kind_of scope p) ≡ true → IsStobj scope p × (variable_in by_number variables p ≡ Stobj p)
+  -- the parent of the rule is the stobj of its variable
+  pub parent_is : (p : ℕ) → is_stobj (kind_of scope p) ≡ true → IsStobj scope p × (variable_in by_number variables p ≡ StobjNamed p)
   parent_is p e = go (kind_in scope p) refl e
     where
-      go : (k : Option Out) → kind_in scope p ≡ k → is_stobj (unwrap_or k Ordinary) ≡ true → IsStobj scope p × (variable_in by_number variables p ≡ Stobj p)
+      go : (k : Option Out) → kind_in scope p ≡ k → is_stobj (unwrap_or k Ordinary) ≡ true → IsStobj scope p × (variable_in by_number variables p ≡ StobjNamed p)
       go None i j = false_true j
       go (Some Ordinary) i j = false_true j
       go (Some (worlds.Stobj z)) i j =
@@ -162,7 +162,7 @@ module _ (w : World) (threaded : IsThreaded w) (packages : List Package) (limit 
       let holds : StobjLetHolds c scope expected names forms vars
       = stobj_let_is c scope expected names forms vars (not_false (stobj_let_holds c scope expected names forms vars) (s13 c mode (here (StobjLet names forms vars producer consumer) scope formal expected) n all.0)) in
       let p : ℕ = holds.parent in
-      let parent : IsStobj scope p × (variable_in by_number variables p ≡ Stobj p) = parent_is p holds.object in
+      let parent : IsStobj scope p × (variable_in by_number variables p ≡ StobjNamed p) = parent_is p holds.stobj in
       let parts : Accepted c mode (producer_scope c scope (parent_in forms) names) producer None (name_kinds c vars) × Accepted c mode (consumer_scope c scope names vars) consumer None expected
       = of_stobj_let c mode scope formal expected names forms vars producer consumer all in
       meets_borrowed p (list_of s.stobjs p) parent.0 parent.1 names forms holds.bs [] (AreOutputs scope expected) expected
@@ -180,7 +180,7 @@ module _ (w : World) (threaded : IsThreaded w) (packages : List Package) (limit 
           → (ls : List (Loan ℕ)) (u : State ℕ) (v : StateOf (Store ℕ)) → AreLoans w holds.parent (list_of u.stobjs holds.parent) holds.bs ls → Stands w scope u.stobjs v.stobjs → AreSame u v
           → Meet w (AreOutputs scope expected) (May scope expected) (IsStobj scope) u v
           (with_loans (on_lists w threaded packages limit) ev vars producer consumer variables ls u) (with_loans (at_places w threaded packages limit) el vars producer consumer variables ls v)
-      meets_loans names forms vars producer consumer expected holds object first second formed_producer formed_consumer ls u v loans stands e = by_twins (are_twins by_number ls) refl
+      meets_loans names forms vars producer consumer expected holds stobj first second formed_producer formed_consumer ls u v loans stands e = by_twins (are_twins by_number ls) refl
         where
           p : ℕ
           p = holds.parent
@@ -189,9 +189,9 @@ module _ (w : World) (threaded : IsThreaded w) (packages : List Package) (limit 
           inside = producer_scope c scope (Some p) names
 
           same_names : children ls ≡ names
-          same_names = loan_names w p (list_of u.stobjs p) (stands.fits p object) holds.bs ls loans ∙ names_bound c names forms holds.bs holds.bound
+          same_names = loan_names w p (list_of u.stobjs p) (stands.fits p stobj) holds.bs ls loans ∙ names_bound c names forms holds.bs holds.bound
 
-          stobjs : (x : ℕ) → has names x ≡ true → is_object_name c x ≡ true
+          stobjs : (x : ℕ) → has names x ≡ true → is_stobj_name c x ≡ true
           stobjs x i = bound_names c p holds.bs x holds.all (ap (λ (ns : List ℕ). has ns x) (names_bound c names forms holds.bs holds.bound) ∙ i)
 
           by_twins : (b : Bool) → are_twins by_number ls ≡ b
@@ -200,23 +200,23 @@ module _ (w : World) (threaded : IsThreaded w) (packages : List Package) (limit 
               (if b then stops_here (Guard stobj_let_word (indices ls)) v else then_with (producing (at_places w threaded packages limit) el vars producer variables ls v) (λ values after. el consumer (bound vars values variables) after))
           by_twins true f = meets_stop w (AreOutputs scope expected) (May scope expected) (IsStobj scope) u v (Guard stobj_let_word (indices ls)) e
           by_twins false f =
-              let lends : AreLent w p (list_of u.stobjs p) ls = are_lent w p (list_of u.stobjs p) (stands.fits p object) holds.bs ls loans holds.distinct holds.twice f in
+              let lends : AreLent w p (list_of u.stobjs p) ls = are_lent w p (list_of u.stobjs p) (stands.fits p stobj) holds.bs ls loans holds.distinct holds.twice f in
               let first_then : ((x : ℕ) → May inside (name_kinds c vars) x → (has vars x ≡ true) × (has (children ls) x ≡ true) × May scope expected p)
               = λ x i.
-              let named : (has vars x ≡ true) × (is_object_name c x ≡ true) = both_true (has vars x) (is_object_name c x) (sym (has_object c vars x) ∙ i.0) in
+              let named : (has vars x ≡ true) × (is_stobj_name c x ≡ true) = both_true (has vars x) (is_stobj_name c x) (sym (has_object c vars x) ∙ i.0) in
               let child : has names x ≡ true = holds.children_only x named.0 named.1 in
-              (named.0, ap (λ (ns : List ℕ). has ns x) same_names ∙ child, (holds.parent_out x named.0 child, object)) in
+              (named.0, ap (λ (ns : List ℕ). has ns x) same_names ∙ child, (holds.parent_out x named.0 child, stobj)) in
               meets_then w (AreOutputs inside (name_kinds c vars)) (AreOutputs scope expected) (May scope expected) (May scope expected) (IsStobj scope) u v
               (producing (on_lists w threaded packages limit) ev vars producer variables ls u) (producing (at_places w threaded packages limit) el vars producer variables ls v)
               (λ values after. ev consumer (bound vars values variables) after) (λ values after. el consumer (bound vars values variables) after)
               (λ x i. i) (λ x i. i.1)
-              (meets_given_back w threaded packages limit scope p object u v stands ls lends (AreOutputs inside (name_kinds c vars)) (May inside (name_kinds c vars)) (IsStobj inside) (May scope expected) vars first_then
+              (meets_given_back w threaded packages limit scope p stobj u v stands ls lends (AreOutputs inside (name_kinds c vars)) (May inside (name_kinds c vars)) (IsStobj inside) (May scope expected) vars first_then
               (producer_objects c scope p names ls same_names)
               (ev producer (loaned_variables (on_lists w threaded packages limit) ls variables) (lending (on_lists w threaded packages limit) ls u)) (el producer (loaned_variables (at_places w threaded packages limit) ls variables) (lending (at_places w threaded packages limit) ls v))
               (h.meets c mode inside producer None (name_kinds c vars) suits n first formed_producer (loaned_variables (on_lists w threaded packages limit) ls variables)
-              (lent_s w threaded packages limit scope p object u v stands ls lends) (lent_t w threaded packages limit scope p object u v stands ls lends)
+              (lent_s w threaded packages limit scope p stobj u v stands ls lends) (lent_t w threaded packages limit scope p stobj u v stands ls lends)
               (producer_variables c scope p names ls same_names variables stobjs are)
-              (stands_lent w scope inside p object u.stobjs v.stobjs ls stands lends (producer_objects c scope p names ls same_names))
+              (stands_lent w scope inside p stobj u.stobjs v.stobjs ls stands lends (producer_objects c scope p names ls same_names))
               (record { symbols = e.symbols; calls = e.calls; outer = e.outer })))
               (λ vs x y a moves.
               let still : Stands w scope x.stobjs y.stobjs = stands_moved w scope (May scope expected) u v x y (λ z i. i.1) stands moves in

@@ -7,9 +7,9 @@ use Rattle.model_terms.specs.Classes as classes
 use Rattle.model_terms.specs.Classes.{has}
 use Rattle.model_eval.specs.Outcomes.{Stobjs, StateOf, State, OutcomeOf, Outcome, Gives, Stops, Unknown}
 use Rattle.model_eval.specs.PlacesKeeping.{Place, Journal, Closed, Open, Store, place_of, list_at, with_list_at}
-use Rattle.model_eval.specs.Scopes.{list_of, with_list}
+use Rattle.model_eval.specs.Variables.{list_of, with_list}
 use Rattle.model_places.specs.Places.{AreApart}
-use Rattle.model_accepted.specs.Scopes.{IsStobj, AreOutputs}
+use Rattle.model_accepted.specs.StobjScopes.{IsStobj, AreOutputs}
 use Rattle.model_in_place.specs.Standing.{Stands}
 use Rattle.model_in_place.specs.Agreement.{Ends, Halts, EndsAtStop, Agrees}
 use Rattle.model_in_place.specs.Writes.{Write, stobjs_after, roots_after, AreWrites, Moves, StopsMoved, Meet}

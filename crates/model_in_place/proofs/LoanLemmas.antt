@@ -8,8 +8,8 @@ use Rattle.model_terms.specs.Classes.{has, repeats}
 use Rattle.model_eval.specs.Outcomes.{Stobjs}
 use Rattle.model_eval.specs.Keeping.{Loan}
 use Rattle.model_eval.specs.PlacesKeeping.{Places, place_of, below, index_path, child_place, lent_places, list_under, with_under}
-use Rattle.model_eval.specs.Scopes.{list_of, with_list}
-use Rattle.model_eval.specs.Children.{child_in, with_child_in, with_child, lent, put_into_parent}
+use Rattle.model_eval.specs.Variables.{list_of, with_list}
+use Rattle.model_eval.specs.Lending.{child_in, with_child_in, with_child, lent, put_into_parent}
 use Rattle.model_eval.specs.ListsKeeping.{all_put}
 use Rattle.model_eval_laws.specs.Scope.{names, is_among}
 use Rattle.model_eval_laws.proofs.Lists.{same_number, names_write, list_widened}

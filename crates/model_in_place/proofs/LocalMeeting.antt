@@ -1,32 +1,32 @@
--- Local objects in place and on lists.
+-- Local stobjs in place and on lists.
 use Rattle.std.proofs.Common.{◌≡◌, ℕ, zero, suc, ◌-◌, ◌<◌, ◌≤◌, List, [], ◌∷◌, ◌++◌, length, take, drop, Bool, true, false, Option, Some, None, refl, sym, ap, ◌∙◌, subst, arith, inl, inr}
 use Rattle.std.specs.Prelude.{◌≢◌, ◌⊎◌, ◌&&◌, nat_eq, if◌then◌else◌}
 use Rattle.std.proofs.lemmas.List.{length-append, length-take-le}
 use Rattle.model_symbols.specs.Symbols.{Package}
 use Rattle.model_lists.specs.Lists.{StobjList}
 use Rattle.model_lists.specs.Layouts.{initial}
-use Rattle.model_lists_laws.proofs.StandingLemmas.{new_objects_stand}
+use Rattle.model_lists_laws.proofs.StandingLemmas.{new_stobjs_stand}
 use Rattle.model_terms.specs.declared.rule.Mode.{Mode}
 use Rattle.model_terms.specs.declared.rule.Mode.TheVariants.{Logic}
 use Rattle.model_terms.specs.Cores.{Core, WithLocal}
 use Rattle.model_terms.specs.Worlds.{World, Out, Scope}
 use Rattle.model_terms.specs.Classes as classes
-use Rattle.model_terms.specs.Classes.{has, is_object_name}
+use Rattle.model_terms.specs.Classes.{has, is_stobj_name}
 use Rattle.model_terms.specs.Scopes.{name_kinds, local_scope, body_scope, other_names}
 use Rattle.model_terms.specs.Outputs.{outs}
 use Rattle.model_terms.specs.Sites.{here}
-use Rattle.model_terms.specs.Nested.{same_kinds, objects_expected, with_local_holds}
-use Rattle.model_eval.specs.Outcomes.{Shown, Stobj, Stobjs, StateOf, State, OutcomeOf, Outcome, Gives, Stops, Unknown, then_with, with_state, one_more_call, counting}
+use Rattle.model_terms.specs.Nested.{same_kinds, stobjs_expected, with_local_holds}
+use Rattle.model_eval.specs.Outcomes.{Shown, StobjNamed, Stobjs, StateOf, State, OutcomeOf, Outcome, Gives, Stops, Unknown, then_with, with_state, one_more_call, counting}
 use Rattle.model_eval.specs.Keeping.{unmaking}
 use Rattle.model_eval.specs.ListsKeeping.{lists_keeping}
 use Rattle.model_eval.specs.PlacesKeeping.{Closed, Place, Nowhere, At, Places, Store, place_of, list_at, with_list_at, list_under, with_under, root_list, with_root, places_keeping}
-use Rattle.model_eval.specs.Scopes.{Variables, bound, list_of, with_list}
+use Rattle.model_eval.specs.Variables.{Variables, bound, list_of, with_list}
 use Rattle.model_eval.specs.Evaluated.{Evaluator, EvaluatorOf, with_fresh}
 use Rattle.model_eval_laws.specs.Scope.{names, is_among}
 use Rattle.model_eval_laws.proofs.Lists.{same_number}
 use Rattle.model_places.specs.Places.{AreApart, IsPath, IsPlace}
 use Rattle.model_accepted.specs.Threaded.{IsFormed, layout_of, Suits, IsThreaded, Fits}
-use Rattle.model_accepted.specs.Scopes.{IsStobj, AreVariables, AreOutputs}
+use Rattle.model_accepted.specs.StobjScopes.{IsStobj, AreVariables, AreOutputs}
 use Rattle.model_in_place.specs.Standing.{Stands, AreSame}
 use Rattle.model_in_place.specs.Writes.{Write, stobjs_after, roots_after, AreWrites, MovesIf, Meet}
 use Rattle.model_accepted.specs.Accepted.{Accepted}
@@ -43,7 +43,7 @@ abbrev pub writes_around : ℕ → List Write → List Write
 writes_around x [] = []
 writes_around x (u ∷ us) = if nat_eq u.0 x then writes_around x us else u ∷ writes_around x us
 
--- objects after writes, the local one of which goes
+-- stobjs after writes, the local one of which goes
 pub objects_around : (x : ℕ) (us : List Write) (l : StobjList ℕ) (os : Stobjs ℕ) → drop 1 (stobjs_after us ((x, l) ∷ os)) ≡ stobjs_after (writes_around x us) os
 objects_around x [] l os = refl
 objects_around x (u ∷ us) l os = go (nat_eq u.0 x) (objects_around x us u.1 os) (objects_around x us l (with_list u.0 u.1 os))
@@ -90,7 +90,7 @@ taken_all rs l =
     let one_less : length (rs ++ l ∷ []) - 1 ≡ length rs = omega (arith, length-append rs (l ∷ [])) in
     ap (λ (n : ℕ). take n (rs ++ l ∷ [])) one_less ∙ taken rs l
 
--- the roots after writes, the last of which is the local object
+-- the roots after writes, the last of which is the local stobj
 roots_around : (scope : Places) (x n : ℕ) (us : List Write) (l : StobjList ℕ) (rs : List (StobjList ℕ)) (Now : ℕ → Type 0) (w : World) → length rs ≡ n
     → ((y : ℕ) → Now y → (y ≡ x) ⊎ ((y ≢ x) × HasRoot n (place_of scope y))) → AreWrites w Now us
     → (m : StobjList ℕ) × (roots_after ((x, At n []) ∷ scope) us (rs ++ l ∷ []) ≡ roots_after scope (writes_around x us) rs ++ m ∷ [])
@@ -123,7 +123,7 @@ allowed_around w x (u ∷ us) Now Then f a = go (nat_eq u.0 x) refl (f u.0 a.0) 
     go false e (inl h) i = true_false (sym (same_number x) ∙ (ap (λ (y : ℕ). nat_eq y x) (sym h) ∙ e))
     go false e (inr h) i = (h, a.1, i)
 
--- ---- a new object
+-- ---- a new stobj
 
 place_has_root : (roots : List (StobjList ℕ)) (p : Place) → IsPlace roots p → HasRoot (length roots) p
 place_has_root roots Nowhere h = absurd h
@@ -154,41 +154,41 @@ new_apart n (At r path) h = inl (λ e. less_not n (subst (λ (k : ℕ). k < n) (
     less_not : (k : ℕ) → k < k → ⊥
     less_not k i = absurd (omega (arith, i))
 
-module _ (w : World) (c : World) (scope : Scope) (object : ℕ) (l : StobjList ℕ) (stobjs : Stobjs ℕ) (store : Store ℕ) (stands : Stands w scope stobjs store) (fits : Fits w object l) where
+module _ (w : World) (c : World) (scope : Scope) (stobj : ℕ) (l : StobjList ℕ) (stobjs : Stobjs ℕ) (store : Store ℕ) (stands : Stands w scope stobjs store) (fits : Fits w stobj l) where
   abbrev store_more : Store ℕ
-  store_more = record store { scope = (object, At (length store.roots) []) ∷ store.scope; roots = store.roots ++ l ∷ [] }
+  store_more = record store { scope = (stobj, At (length store.roots) []) ∷ store.scope; roots = store.roots ++ l ∷ [] }
 
-  -- by whether the object is the local one
+  -- by whether the stobj is the local one
   abbrev IsAround : ℕ → Type 0
-  IsAround x = (x ≡ object) ⊎ ((x ≢ object) × IsStobj scope x)
+  IsAround x = (x ≡ stobj) ⊎ ((x ≢ stobj) × IsStobj scope x)
 
-  place_around : (x : ℕ) → x ≢ object → place_of store_more.scope x ≡ place_of store.scope x
-  place_around x d = rw (not_equal x object d) refl
+  place_around : (x : ℕ) → x ≢ stobj → place_of store_more.scope x ≡ place_of store.scope x
+  place_around x d = rw (not_equal x stobj d) refl
 
-  place_new : place_of store_more.scope object ≡ At (length store.roots) []
-  place_new = rw (same_number object) refl
+  place_new : place_of store_more.scope stobj ≡ At (length store.roots) []
+  place_new = rw (same_number stobj) refl
 
-  pub stands_new : Stands w (local_scope c scope object) ((object, l) ∷ stobjs) store_more
+  pub stands_new : Stands w (local_scope c scope stobj) ((stobj, l) ∷ stobjs) store_more
   stands_new = record {
-    same = λ x h. same_by x (local_object c scope object x h);
-    known = λ x h. known_by x (local_object c scope object x h);
-    places = λ x h. places_by x (local_object c scope object x h);
-    apart = λ x y h i d. apart_by x y (local_object c scope object x h) (local_object c scope object y i) d;
-    fits = λ x h. fits_by x (local_object c scope object x h);
+    same = λ x h. same_by x (local_object c scope stobj x h);
+    known = λ x h. known_by x (local_object c scope stobj x h);
+    places = λ x h. places_by x (local_object c scope stobj x h);
+    apart = λ x y h i d. apart_by x y (local_object c scope stobj x h) (local_object c scope stobj y i) d;
+    fits = λ x h. fits_by x (local_object c scope stobj x h);
   }
     where
-      same_by : (x : ℕ) → IsAround x → list_of ((object, l) ∷ stobjs) x ≡ list_at store_more.roots (place_of store_more.scope x)
-      same_by x (inl e) = rw (e, same_number object) (sym (root_last store.roots l))
+      same_by : (x : ℕ) → IsAround x → list_of ((stobj, l) ∷ stobjs) x ≡ list_at store_more.roots (place_of store_more.scope x)
+      same_by x (inl e) = rw (e, same_number stobj) (sym (root_last store.roots l))
       same_by x (inr i) =
-          rw (not_equal x object i.0) (stands.same x i.1 ∙ sym (list_more store.roots l (place_of store.scope x) (stands.places x i.1)))
+          rw (not_equal x stobj i.0) (stands.same x i.1 ∙ sym (list_more store.roots l (place_of store.scope x) (stands.places x i.1)))
 
-      known_by : (x : ℕ) → IsAround x → is_among x (object ∷ names stobjs) ≡ true
-      known_by x (inl e) = rw (e, same_number object) refl
-      known_by x (inr i) = rw (not_equal x object i.0) (stands.known x i.1)
+      known_by : (x : ℕ) → IsAround x → is_among x (stobj ∷ names stobjs) ≡ true
+      known_by x (inl e) = rw (e, same_number stobj) refl
+      known_by x (inr i) = rw (not_equal x stobj i.0) (stands.known x i.1)
 
       places_by : (x : ℕ) → IsAround x → IsPlace store_more.roots (place_of store_more.scope x)
-      places_by x (inl e) = rw (e, same_number object) (let there : length store.roots < length (store.roots ++ l ∷ []) = omega (arith, length-append store.roots (l ∷ [])) in (there, tt))
-      places_by x (inr i) = rw (not_equal x object i.0) (place_more store.roots l (place_of store.scope x) (stands.places x i.1))
+      places_by x (inl e) = rw (e, same_number stobj) (let there : length store.roots < length (store.roots ++ l ∷ []) = omega (arith, length-append store.roots (l ∷ [])) in (there, tt))
+      places_by x (inr i) = rw (not_equal x stobj i.0) (place_more store.roots l (place_of store.scope x) (stands.places x i.1))
 
       apart_by : (x y : ℕ) → IsAround x → IsAround y → x ≢ y → AreApart (place_of store_more.scope x) (place_of store_more.scope y)
       apart_by x y (inl e) (inl f) d = absurd (d (e ∙ sym f))
@@ -202,11 +202,11 @@ module _ (w : World) (c : World) (scope : Scope) (object : ℕ) (l : StobjList �
           subst (λ (p : Place). AreApart p (place_of store_more.scope y)) (sym (place_around x i.0))
           (subst (AreApart (place_of store.scope x)) (sym (place_around y j.0)) (stands.apart x y i.1 j.1 d))
 
-      fits_by : (x : ℕ) → IsAround x → Fits w x (list_of ((object, l) ∷ stobjs) x)
-      fits_by x (inl e) = subst (λ (z : ℕ). Fits w z (list_of ((object, l) ∷ stobjs) z)) (sym e) (rw (same_number object) fits)
-      fits_by x (inr i) = rw (not_equal x object i.0) (stands.fits x i.1)
+      fits_by : (x : ℕ) → IsAround x → Fits w x (list_of ((stobj, l) ∷ stobjs) x)
+      fits_by x (inl e) = subst (λ (z : ℕ). Fits w z (list_of ((stobj, l) ∷ stobjs) z)) (sym e) (rw (same_number stobj) fits)
+      fits_by x (inr i) = rw (not_equal x stobj i.0) (stands.fits x i.1)
 
--- ---- a form with a new object in scope
+-- ---- a form with a new stobj in scope
 
 one_fewer : (roots before : List (StobjList ℕ)) (l : StobjList ℕ) → length roots ≡ length (before ++ l ∷ []) → length (take (length roots - 1) roots) ≡ length before
 one_fewer roots before l e =
@@ -214,42 +214,42 @@ one_fewer roots before l e =
     let one_less : length roots - 1 ≡ length before = omega (arith, e, length-append before (l ∷ [])) in
     length-take-le (length roots - 1) roots short ∙ one_less
 
-module _ (w : World) (scope : Scope) (object : ℕ) (l : StobjList ℕ) (s : State ℕ) (t : StateOf (Store ℕ)) (stands : Stands w scope s.stobjs t.stobjs) where
+module _ (w : World) (scope : Scope) (stobj : ℕ) (l : StobjList ℕ) (s : State ℕ) (t : StateOf (Store ℕ)) (stands : Stands w scope s.stobjs t.stobjs) where
   abbrev pub with_new : State ℕ
-  with_new = record s { stobjs = (object, l) ∷ s.stobjs }
+  with_new = record s { stobjs = (stobj, l) ∷ s.stobjs }
 
   abbrev pub new_places : StateOf (Store ℕ)
-  new_places = record t { stobjs = record t.stobjs { scope = (object, At (length t.stobjs.roots) []) ∷ t.stobjs.scope; roots = t.stobjs.roots ++ l ∷ [] } }
+  new_places = record t { stobjs = record t.stobjs { scope = (stobj, At (length t.stobjs.roots) []) ∷ t.stobjs.scope; roots = t.stobjs.roots ++ l ∷ [] } }
 
-  pub moves_around : (Condition : Type 0) (Now Then : ℕ → Type 0) (u : State ℕ) (v : StateOf (Store ℕ)) → ((y : ℕ) → Now y → (y ≡ object) ⊎ ((y ≢ object) × IsStobj scope y)) → ((y : ℕ) → Now y → (y ≡ object) ⊎ Then y)
+  pub moves_around : (Condition : Type 0) (Now Then : ℕ → Type 0) (u : State ℕ) (v : StateOf (Store ℕ)) → ((y : ℕ) → Now y → (y ≡ stobj) ⊎ ((y ≢ stobj) × IsStobj scope y)) → ((y : ℕ) → Now y → (y ≡ stobj) ⊎ Then y)
       → MovesIf w Condition Now with_new new_places u v → MovesIf w Condition Then s t (unmaking lists_keeping u) (unmaking places_keeping v)
   moves_around Condition Now Then u v around f m =
       let n : ℕ = length t.stobjs.roots in
-      let roots : (k : StobjList ℕ) × (roots_after ((object, At n []) ∷ t.stobjs.scope) m.writes (t.stobjs.roots ++ l ∷ []) ≡ roots_after t.stobjs.scope (writes_around object m.writes) t.stobjs.roots ++ k ∷ [])
-      = roots_around t.stobjs.scope object n m.writes l t.stobjs.roots Now w refl rooted m.allowed in
+      let roots : (k : StobjList ℕ) × (roots_after ((stobj, At n []) ∷ t.stobjs.scope) m.writes (t.stobjs.roots ++ l ∷ []) ≡ roots_after t.stobjs.scope (writes_around stobj m.writes) t.stobjs.roots ++ k ∷ [])
+      = roots_around t.stobjs.scope stobj n m.writes l t.stobjs.roots Now w refl rooted m.allowed in
       record {
-        writes = writes_around object m.writes;
-        allowed = allowed_around w object m.writes Now Then f m.allowed;
-        stobjs = ap (drop 1) m.stobjs ∙ objects_around object m.writes l s.stobjs;
+        writes = writes_around stobj m.writes;
+        allowed = allowed_around w stobj m.writes Now Then f m.allowed;
+        stobjs = ap (drop 1) m.stobjs ∙ objects_around stobj m.writes l s.stobjs;
         roots = λ c.
             ap (λ (rs : List (StobjList ℕ)). take (length rs - 1) rs) (m.roots c ∙ roots.1)
-            ∙ taken_all (roots_after t.stobjs.scope (writes_around object m.writes) t.stobjs.roots) roots.0;
+            ∙ taken_all (roots_after t.stobjs.scope (writes_around stobj m.writes) t.stobjs.roots) roots.0;
         count = one_fewer v.stobjs.roots t.stobjs.roots l m.count;
         places = ap (drop 1) m.places;
         journal = m.journal;
         same = record { symbols = m.same.symbols; calls = m.same.calls; outer = m.same.outer };
       }
     where
-      rooted : (y : ℕ) → Now y → (y ≡ object) ⊎ ((y ≢ object) × HasRoot (length t.stobjs.roots) (place_of t.stobjs.scope y))
+      rooted : (y : ℕ) → Now y → (y ≡ stobj) ⊎ ((y ≢ stobj) × HasRoot (length t.stobjs.roots) (place_of t.stobjs.scope y))
       rooted y h = go (around y h)
         where
-          go : (y ≡ object) ⊎ ((y ≢ object) × IsStobj scope y) → (y ≡ object) ⊎ ((y ≢ object) × HasRoot (length t.stobjs.roots) (place_of t.stobjs.scope y))
+          go : (y ≡ stobj) ⊎ ((y ≢ stobj) × IsStobj scope y) → (y ≡ stobj) ⊎ ((y ≢ stobj) × HasRoot (length t.stobjs.roots) (place_of t.stobjs.scope y))
           go (inl e) = inl e
           go (inr i) = inr (i.0, place_has_root t.stobjs.roots (place_of t.stobjs.scope y) (stands.places y i.1))
 
   meets_around : (Are : List (Shown ℕ) → Type 0) (May Might Then Thens : ℕ → Type 0) (p : Outcome ℕ) (q : OutcomeOf ℕ (Store ℕ))
-      → ((y : ℕ) → May y → (y ≡ object) ⊎ ((y ≢ object) × IsStobj scope y)) → ((y : ℕ) → May y → (y ≡ object) ⊎ Then y)
-      → ((y : ℕ) → Might y → (y ≡ object) ⊎ ((y ≢ object) × IsStobj scope y)) → ((y : ℕ) → Might y → (y ≡ object) ⊎ Thens y)
+      → ((y : ℕ) → May y → (y ≡ stobj) ⊎ ((y ≢ stobj) × IsStobj scope y)) → ((y : ℕ) → May y → (y ≡ stobj) ⊎ Then y)
+      → ((y : ℕ) → Might y → (y ≡ stobj) ⊎ ((y ≢ stobj) × IsStobj scope y)) → ((y : ℕ) → Might y → (y ≡ stobj) ⊎ Thens y)
       → Meet w Are May Might with_new new_places p q → Meet w Are Then Thens s t (with_state (unmaking lists_keeping) p) (with_state (unmaking places_keeping) q)
   meets_around Are May Might Then Thens (Gives vs u) (Gives ws v) a b d e m = (m.0, m.1, moves_around (Unit {0}) May Then u v a b m.2)
   meets_around Are May Might Then Thens (Gives vs u) (Stops stop origin v) a b d e m = absurd m
@@ -259,78 +259,78 @@ module _ (w : World) (scope : Scope) (object : ℕ) (l : StobjList ℕ) (s : Sta
   meets_around Are May Might Then Thens (Stops stop origin u) Unknown a b d e m = absurd m
   meets_around Are May Might Then Thens Unknown q a b d e m = absurd m
 
--- ---- the rule of local objects
+-- ---- the rule of local stobjs
 
-pub record LocalHolds (c : World) (scope : Scope) (expected : List Out) (object : ℕ) (names : List ℕ) : Type 0 where
-  pub named : is_object_name c object ≡ true
-  pub expected_ones : (x : ℕ) → has (classes.stobjs (name_kinds c names)) x ≡ true → x ≢ object → has (classes.stobjs expected) x ≡ true
+pub record LocalHolds (c : World) (scope : Scope) (expected : List Out) (stobj : ℕ) (names : List ℕ) : Type 0 where
+  pub named : is_stobj_name c stobj ≡ true
+  pub expected_ones : (x : ℕ) → has (classes.stobjs (name_kinds c names)) x ≡ true → x ≢ stobj → has (classes.stobjs expected) x ≡ true
 
-pub local_holds : (c : World) (scope : Scope) (expected : List Out) (object : ℕ) (names : List ℕ) (producer : Core) → with_local_holds c scope expected object names producer ≡ true → LocalHolds c scope expected object names
+pub local_holds : (c : World) (scope : Scope) (expected : List Out) (stobj : ℕ) (names : List ℕ) (producer : Core) → with_local_holds c scope expected stobj names producer ≡ true → LocalHolds c scope expected stobj names
 unfolding with_local_holds
-local_holds c scope expected object names producer e =
-    let first : (is_object_name c object ≡ true) × ((has names object && (objects_expected (name_kinds c (other_names object names)) expected && same_kinds (outs c (local_scope c scope object) producer) (name_kinds c names))) ≡ true)
-    = both_true (is_object_name c object) (has names object && (objects_expected (name_kinds c (other_names object names)) expected && same_kinds (outs c (local_scope c scope object) producer) (name_kinds c names))) e in
-    let second : (has names object ≡ true) × ((objects_expected (name_kinds c (other_names object names)) expected && same_kinds (outs c (local_scope c scope object) producer) (name_kinds c names)) ≡ true)
-    = both_true (has names object) (objects_expected (name_kinds c (other_names object names)) expected && same_kinds (outs c (local_scope c scope object) producer) (name_kinds c names)) first.1 in
-    let third : (objects_expected (name_kinds c (other_names object names)) expected ≡ true) × (same_kinds (outs c (local_scope c scope object) producer) (name_kinds c names) ≡ true)
-    = both_true (objects_expected (name_kinds c (other_names object names)) expected) (same_kinds (outs c (local_scope c scope object) producer) (name_kinds c names)) second.1 in
+local_holds c scope expected stobj names producer e =
+    let first : (is_stobj_name c stobj ≡ true) × ((has names stobj && (stobjs_expected (name_kinds c (other_names stobj names)) expected && same_kinds (outs c (local_scope c scope stobj) producer) (name_kinds c names))) ≡ true)
+    = both_true (is_stobj_name c stobj) (has names stobj && (stobjs_expected (name_kinds c (other_names stobj names)) expected && same_kinds (outs c (local_scope c scope stobj) producer) (name_kinds c names))) e in
+    let second : (has names stobj ≡ true) × ((stobjs_expected (name_kinds c (other_names stobj names)) expected && same_kinds (outs c (local_scope c scope stobj) producer) (name_kinds c names)) ≡ true)
+    = both_true (has names stobj) (stobjs_expected (name_kinds c (other_names stobj names)) expected && same_kinds (outs c (local_scope c scope stobj) producer) (name_kinds c names)) first.1 in
+    let third : (stobjs_expected (name_kinds c (other_names stobj names)) expected ≡ true) × (same_kinds (outs c (local_scope c scope stobj) producer) (name_kinds c names) ≡ true)
+    = both_true (stobjs_expected (name_kinds c (other_names stobj names)) expected) (same_kinds (outs c (local_scope c scope stobj) producer) (name_kinds c names)) second.1 in
     record {
       named = first.0;
-      expected_ones = λ x h d. all_has (has (classes.stobjs expected)) (classes.stobjs (name_kinds c (other_names object names))) x third.0 (among_others x h d);
+      expected_ones = λ x h d. all_has (has (classes.stobjs expected)) (classes.stobjs (name_kinds c (other_names stobj names))) x third.0 (among_others x h d);
     }
   where
-    among_others : (x : ℕ) → has (classes.stobjs (name_kinds c names)) x ≡ true → x ≢ object → has (classes.stobjs (name_kinds c (other_names object names))) x ≡ true
+    among_others : (x : ℕ) → has (classes.stobjs (name_kinds c names)) x ≡ true → x ≢ stobj → has (classes.stobjs (name_kinds c (other_names stobj names))) x ≡ true
     among_others x h d =
-        let both : (has names x ≡ true) × (is_object_name c x ≡ true) = both_true (has names x) (is_object_name c x) (sym (has_object c names x) ∙ h) in
-        has_object c (other_names object names) x ∙ rw (has_other object names x, not_equal x object d, both.0, both.1) refl
+        let both : (has names x ≡ true) × (is_stobj_name c x ≡ true) = both_true (has names x) (is_stobj_name c x) (sym (has_object c names x) ∙ h) in
+        has_object c (other_names stobj names) x ∙ rw (has_other stobj names x, not_equal x stobj d, both.0, both.1) refl
 
 module _ (w : World) (threaded : IsThreaded w) (packages : List Package) (limit : ℕ) (ev : Evaluator ℕ) (el : EvaluatorOf ℕ (Store ℕ)) (h : Meets w threaded packages limit ev el) (c : World) (mode : Mode) (scope : Scope) (suits : Suits c w) (n : mode ≢ Logic)
     (variables : Variables ℕ) (are : AreVariables scope variables) where
-  pub meets_local : (object : ℕ) (locals : List ℕ) (producer body : Core) (formal : Option ℕ) (expected : List Out) (s : State ℕ) (t : StateOf (Store ℕ)) → Accepted c mode scope (WithLocal object locals producer body) formal expected
+  pub meets_local : (stobj : ℕ) (locals : List ℕ) (producer body : Core) (formal : Option ℕ) (expected : List Out) (s : State ℕ) (t : StateOf (Store ℕ)) → Accepted c mode scope (WithLocal stobj locals producer body) formal expected
       → IsFormed c producer → IsFormed c body → Stands w scope s.stobjs t.stobjs → AreSame s t
       → Meet w (AreOutputs scope expected) (May scope expected) (IsStobj scope) s t
-      (then_with (counting limit s (with_fresh (on_lists w threaded packages limit) ev object (Some (initial (layout_of w object))) producer variables)) (λ values after. ev body (bound locals values variables) after))
-      (then_with (counting limit t (with_fresh (at_places w threaded packages limit) el object (Some (initial (layout_of w object))) producer variables)) (λ values after. el body (bound locals values variables) after))
-  meets_local object locals producer body formal expected s t all formed_producer formed_body stands e =
-      let holds : LocalHolds c scope expected object locals
-      = local_holds c scope expected object locals producer (not_false (with_local_holds c scope expected object locals producer) (s14 c mode (here (WithLocal object locals producer body) scope formal expected) n all.0)) in
-      let parts : Accepted c mode (local_scope c scope object) producer None (name_kinds c locals) × Accepted c mode (body_scope c scope object locals) body None expected
-      = of_with_local c mode scope formal expected object locals producer body all in
-      let inner : Scope = local_scope c scope object in
-      let l : StobjList ℕ = initial (layout_of w object) in
+      (then_with (counting limit s (with_fresh (on_lists w threaded packages limit) ev stobj (Some (initial (layout_of w stobj))) producer variables)) (λ values after. ev body (bound locals values variables) after))
+      (then_with (counting limit t (with_fresh (at_places w threaded packages limit) el stobj (Some (initial (layout_of w stobj))) producer variables)) (λ values after. el body (bound locals values variables) after))
+  meets_local stobj locals producer body formal expected s t all formed_producer formed_body stands e =
+      let holds : LocalHolds c scope expected stobj locals
+      = local_holds c scope expected stobj locals producer (not_false (with_local_holds c scope expected stobj locals producer) (s14 c mode (here (WithLocal stobj locals producer body) scope formal expected) n all.0)) in
+      let parts : Accepted c mode (local_scope c scope stobj) producer None (name_kinds c locals) × Accepted c mode (body_scope c scope stobj locals) body None expected
+      = of_with_local c mode scope formal expected stobj locals producer body all in
+      let inner : Scope = local_scope c scope stobj in
+      let l : StobjList ℕ = initial (layout_of w stobj) in
       let Before : (ℕ → Type 0) = λ x. (has (classes.stobjs expected) x ≡ true) × IsStobj scope x in
       meets_then w (AreOutputs inner (name_kinds c locals)) (AreOutputs scope expected) Before (May scope expected) (IsStobj scope) s t
-      (counting limit s (with_fresh (on_lists w threaded packages limit) ev object (Some l) producer variables))
-      (counting limit t (with_fresh (at_places w threaded packages limit) el object (Some l) producer variables))
+      (counting limit s (with_fresh (on_lists w threaded packages limit) ev stobj (Some l) producer variables))
+      (counting limit t (with_fresh (at_places w threaded packages limit) el stobj (Some l) producer variables))
       (λ values after. ev body (bound locals values variables) after) (λ values after. el body (bound locals values variables) after)
       (λ x i. i) (λ x i. i.1)
       (meets_counting w (AreOutputs inner (name_kinds c locals)) Before (IsStobj scope) limit s t
-      (with_fresh (on_lists w threaded packages limit) ev object (Some l) producer variables) (with_fresh (at_places w threaded packages limit) el object (Some l) producer variables) e
+      (with_fresh (on_lists w threaded packages limit) ev stobj (Some l) producer variables) (with_fresh (at_places w threaded packages limit) el stobj (Some l) producer variables) e
       (λ i. meets_counted w (AreOutputs inner (name_kinds c locals)) Before (IsStobj scope) s t
-      (with_fresh (on_lists w threaded packages limit) ev object (Some l) producer variables (one_more_call s)) (with_fresh (at_places w threaded packages limit) el object (Some l) producer variables (one_more_call t))
-      (meets_around w scope object l (one_more_call s) (one_more_call t) stands (AreOutputs inner (name_kinds c locals)) (May inner (name_kinds c locals)) (IsStobj inner) Before (IsStobj scope)
-      (ev producer ((object, Stobj object) ∷ variables) (with_new w scope object l (one_more_call s) (one_more_call t) stands)) (el producer ((object, Stobj object) ∷ variables) (new_places w scope object l (one_more_call s) (one_more_call t) stands))
-      (λ y m. local_object c scope object y m.1) (λ y m. allowed_before object locals holds.expected_ones y m.0 (local_object c scope object y m.1))
-      (λ y m. local_object c scope object y m) (λ y m. around_only object y (local_object c scope object y m))
-      (h.meets c mode inner producer None (name_kinds c locals) suits n parts.0 formed_producer ((object, Stobj object) ∷ variables)
-      (with_new w scope object l (one_more_call s) (one_more_call t) stands) (new_places w scope object l (one_more_call s) (one_more_call t) stands)
-      (local_variables c scope object variables holds.named are)
-      (stands_new w c scope object l s.stobjs t.stobjs stands (new_objects_stand.fields (layout_of w object)))
+      (with_fresh (on_lists w threaded packages limit) ev stobj (Some l) producer variables (one_more_call s)) (with_fresh (at_places w threaded packages limit) el stobj (Some l) producer variables (one_more_call t))
+      (meets_around w scope stobj l (one_more_call s) (one_more_call t) stands (AreOutputs inner (name_kinds c locals)) (May inner (name_kinds c locals)) (IsStobj inner) Before (IsStobj scope)
+      (ev producer ((stobj, StobjNamed stobj) ∷ variables) (with_new w scope stobj l (one_more_call s) (one_more_call t) stands)) (el producer ((stobj, StobjNamed stobj) ∷ variables) (new_places w scope stobj l (one_more_call s) (one_more_call t) stands))
+      (λ y m. local_object c scope stobj y m.1) (λ y m. allowed_before stobj locals holds.expected_ones y m.0 (local_object c scope stobj y m.1))
+      (λ y m. local_object c scope stobj y m) (λ y m. around_only stobj y (local_object c scope stobj y m))
+      (h.meets c mode inner producer None (name_kinds c locals) suits n parts.0 formed_producer ((stobj, StobjNamed stobj) ∷ variables)
+      (with_new w scope stobj l (one_more_call s) (one_more_call t) stands) (new_places w scope stobj l (one_more_call s) (one_more_call t) stands)
+      (local_variables c scope stobj variables holds.named are)
+      (stands_new w c scope stobj l s.stobjs t.stobjs stands (new_stobjs_stand.fields (layout_of w stobj)))
       (record { symbols = i.symbols; calls = i.calls; outer = i.outer })))))
       (λ vs u v a moves.
       let still : Stands w scope u.stobjs v.stobjs = stands_moved w scope Before s t u v (λ x i. i.1) stands moves in
-      let smaller : ((x : ℕ) → IsStobj (body_scope c scope object locals) x → IsStobj scope x) = λ x i. body_objects c scope object locals vs variables a x i in
-      meets_wider w (AreOutputs (body_scope c scope object locals) expected) (AreOutputs scope expected) (May (body_scope c scope object locals) expected) (IsStobj (body_scope c scope object locals)) (May scope expected) (IsStobj scope) u v
+      let smaller : ((x : ℕ) → IsStobj (body_scope c scope stobj locals) x → IsStobj scope x) = λ x i. body_objects c scope stobj locals vs variables a x i in
+      meets_wider w (AreOutputs (body_scope c scope stobj locals) expected) (AreOutputs scope expected) (May (body_scope c scope stobj locals) expected) (IsStobj (body_scope c scope stobj locals)) (May scope expected) (IsStobj scope) u v
       (ev body (bound locals vs variables) u) (el body (bound locals vs variables) v)
-      (λ us o. outputs_wider (body_scope c scope object locals) scope expected us smaller o) (λ x i. (i.0, smaller x i.1)) smaller
-      (h.meets c mode (body_scope c scope object locals) body None expected suits n parts.1 formed_body (bound locals vs variables) u v
-      (body_variables c scope object locals vs variables a are) (stands_less w (body_scope c scope object locals) scope u.stobjs v.stobjs smaller still) moves.same))
+      (λ us o. outputs_wider (body_scope c scope stobj locals) scope expected us smaller o) (λ x i. (i.0, smaller x i.1)) smaller
+      (h.meets c mode (body_scope c scope stobj locals) body None expected suits n parts.1 formed_body (bound locals vs variables) u v
+      (body_variables c scope stobj locals vs variables a are) (stands_less w (body_scope c scope stobj locals) scope u.stobjs v.stobjs smaller still) moves.same))
     where
-      around_only : (object y : ℕ) → (y ≡ object) ⊎ ((y ≢ object) × IsStobj scope y) → (y ≡ object) ⊎ IsStobj scope y
-      around_only object y (inl i) = inl i
-      around_only object y (inr i) = inr i.1
+      around_only : (stobj y : ℕ) → (y ≡ stobj) ⊎ ((y ≢ stobj) × IsStobj scope y) → (y ≡ stobj) ⊎ IsStobj scope y
+      around_only stobj y (inl i) = inl i
+      around_only stobj y (inr i) = inr i.1
 
-      allowed_before : (object : ℕ) (locals : List ℕ) → ((x : ℕ) → has (classes.stobjs (name_kinds c locals)) x ≡ true → x ≢ object → has (classes.stobjs expected) x ≡ true)
-          → (y : ℕ) → has (classes.stobjs (name_kinds c locals)) y ≡ true → (y ≡ object) ⊎ ((y ≢ object) × IsStobj scope y) → (y ≡ object) ⊎ ((has (classes.stobjs expected) y ≡ true) × IsStobj scope y)
-      allowed_before object locals f y m (inl i) = inl i
-      allowed_before object locals f y m (inr i) = inr (f y m i.0, i.1)
+      allowed_before : (stobj : ℕ) (locals : List ℕ) → ((x : ℕ) → has (classes.stobjs (name_kinds c locals)) x ≡ true → x ≢ stobj → has (classes.stobjs expected) x ≡ true)
+          → (y : ℕ) → has (classes.stobjs (name_kinds c locals)) y ≡ true → (y ≡ stobj) ⊎ ((y ≢ stobj) × IsStobj scope y) → (y ≡ stobj) ⊎ ((has (classes.stobjs expected) y ≡ true) × IsStobj scope y)
+      allowed_before stobj locals f y m (inl i) = inl i
+      allowed_before stobj locals f y m (inr i) = inr (f y m i.0, i.1)

@@ -1,10 +1,10 @@
--- Lists by the names of their objects.
+-- Lists by the names of their stobjs.
 use Rattle.std.proofs.Common.{◌≡◌, ℕ, [], ◌∷◌, Bool, true, false, refl, sym, ap, ◌∙◌, subst, inl, inr}
 use Rattle.std.specs.Prelude.{◌≢◌, ◌⊎◌, nat_eq, ◌||◌, if◌then◌else◌}
 use Rattle.std.proofs.lemmas.Bool.{eqb-true}
 use Rattle.model_lists.specs.Lists.{StobjList}
 use Rattle.model_eval.specs.Outcomes.{Stobjs}
-use Rattle.model_eval.specs.Scopes.{list_of, with_list}
+use Rattle.model_eval.specs.Variables.{list_of, with_list}
 use Rattle.model_eval_laws.specs.Scope.{names, is_among}
 use Rattle.model_eval_laws.proofs.Lists.{same_number}
 

@@ -14,16 +14,16 @@ use Rattle.model_terms.specs.Worlds as worlds
 use Rattle.model_terms.specs.Classes as classes
 use Rattle.model_terms.specs.Classes.{has, repeats, congruent, all_congruent, instance_of, renamed_out}
 use Rattle.model_terms.specs.Scopes.{kind_in, kind_of}
-use Rattle.model_terms.specs.Outputs.{signature_in, object_actuals, all_there, call_outs, outputs, outs}
-use Rattle.model_terms.specs.Children.{is_internal, is_executable, runs}
+use Rattle.model_terms.specs.Outputs.{signature_in, stobj_actuals, all_there, call_outs, outputs, outs}
+use Rattle.model_terms.specs.Accessors.{is_internal, is_executable, runs}
 use Rattle.model_terms.specs.Sites.{here, one_ordinary, ins_of}
 use Rattle.model_terms.specs.Nested.{is_stobj, same_kinds, stands_for}
-use Rattle.model_eval.specs.Outcomes.{Shown, Plain, Stobj, StateOf, State, OutcomeOf, Outcome, Gives}
+use Rattle.model_eval.specs.Outcomes.{Shown, Plain, StobjNamed, StateOf, State, OutcomeOf, Outcome, Gives}
 use Rattle.model_eval.specs.PlacesKeeping.{Store}
-use Rattle.model_eval.specs.Scopes.{Variables, variable_in, single}
+use Rattle.model_eval.specs.Variables.{Variables, variable_in, single}
 use Rattle.model_eval.specs.Evaluated.{Evaluator, EvaluatorOf, in_order, called}
 use Rattle.model_accepted.specs.Threaded.{IsFormed, AreFormed, HasArity, Runs, Suits, IsThreaded}
-use Rattle.model_accepted.specs.Scopes.{IsStobj, IsOfKind, AreVariables, AreOutputs}
+use Rattle.model_accepted.specs.StobjScopes.{IsStobj, IsOfKind, AreVariables, AreOutputs}
 use Rattle.model_in_place.specs.Standing.{Stands, AreSame}
 use Rattle.model_in_place.specs.Writes.{Moves, Meet}
 use Rattle.model_in_place.specs.Calls.{names_in, AreArguments}
@@ -106,15 +106,15 @@ module _ (w : World) (threaded : IsThreaded w) (packages : List Package) (limit 
   -- the arguments that actuals give, and the variables that they are
   pub record AreActuals (ins : List Out) (forms : Cores) (vs : List (Shown ℕ)) : Type 0 where
     pub arguments : AreArguments w scope ins vs
-    pub there : all_there (object_actuals ins forms) ≡ Some (names_in vs)
+    pub there : all_there (stobj_actuals ins forms) ≡ Some (names_in vs)
     pub congruent_ones : all_congruent c (classes.stobjs ins) (names_in vs) ≡ true
 
-  -- an actual in the position of an object is its variable
+  -- an actual in the position of a stobj is its variable
   pub record IsActual (o : ℕ) (form : Core) : Type 0 where
     pub name : ℕ
     pub is : form ≡ Var name
     pub in_scope : IsStobj scope name
-    pub shown : variable_in by_number variables name ≡ Stobj name
+    pub shown : variable_in by_number variables name ≡ StobjNamed name
     pub alike : congruent c o name ≡ true
 
   pub actual_is : (o : ℕ) (form : Core) → option_map_or (λ x. stands_for c scope x o) (variable form) false ≡ true → IsActual o form
@@ -134,7 +134,7 @@ module _ (w : World) (threaded : IsThreaded w) (packages : List Package) (limit 
   actual_is o (Mv parts) e = false_true e
   actual_is o (MvLet names bound body) e = false_true e
   actual_is o (StobjLet names bound vars producer consumer) e = false_true e
-  actual_is o (WithLocal object names producer body) e = false_true e
+  actual_is o (WithLocal stobj names producer body) e = false_true e
   actual_is o (MustBeEqual logic exec) e = false_true e
   actual_is o (Call f actuals) e = false_true e
 
@@ -169,24 +169,24 @@ module _ (w : World) (threaded : IsThreaded w) (packages : List Package) (limit 
       one_more : (vs us : List (Shown ℕ)) → AreOutputs scope one_ordinary vs → AreActuals ins forms us → AreActuals (Ordinary ∷ ins) (more form forms) (single by_number vs ∷ us)
       one_more [] us i a = absurd i
       one_more (Plain o ∷ vs) us i a = record { arguments = (tt, a.arguments); there = a.there; congruent_ones = a.congruent_ones }
-      one_more (Stobj y ∷ vs) us i a = absurd i.0
+      one_more (StobjNamed y ∷ vs) us i a = absurd i.0
   meets_actuals (worlds.Stobj o ∷ ins) (more form forms) done Are expected go to s t p formed counted stands e k =
       let fewer : length ins ≡ count forms = omega (arith, counted) in
       let actual : IsActual o form = actual_is o form (not_false (option_map_or (λ x. stands_for c scope x o) (variable form) false) (s1 c mode (here form scope (Some o) _) n p.0.0)) in
-      let first : ev form variables s ≡ Gives (Stobj actual.name ∷ []) s
+      let first : ev form variables s ≡ Gives (StobjNamed actual.name ∷ []) s
       = ap (λ (f : Core). ev f variables s) actual.is ∙ (h.of_lists actual.name variables s ∙ ap (λ (v : Shown ℕ). Gives (v ∷ []) s) actual.shown) in
-      let second : el form variables t ≡ Gives (Stobj actual.name ∷ []) t
+      let second : el form variables t ≡ Gives (StobjNamed actual.name ∷ []) t
       = ap (λ (f : Core). el f variables t) actual.is ∙ (h.of_places actual.name variables t ∙ ap (λ (v : Shown ℕ). Gives (v ∷ []) t) actual.shown) in
       rw (first, second)
-      (meets_actuals ins forms (done ++ Stobj actual.name ∷ []) Are expected go to s t p.1 formed.1 fewer stands e
+      (meets_actuals ins forms (done ++ StobjNamed actual.name ∷ []) Are expected go to s t p.1 formed.1 fewer stands e
       (λ us all q z a same st e.
-      k (Stobj actual.name ∷ us) all q z
+      k (StobjNamed actual.name ∷ us) all q z
       (record {
         arguments = ((actual.in_scope, suits.layouts o actual.name actual.alike), a.arguments);
-        there = one_there form actual.name (object_actuals ins forms) (names_in us) actual.is a.there;
+        there = one_there form actual.name (stobj_actuals ins forms) (names_in us) actual.is a.there;
         congruent_ones = both_hold (congruent c o actual.name) (all_congruent c (classes.stobjs ins) (names_in us)) actual.alike a.congruent_ones;
       })
-      (same ∙ append_assoc done (Stobj actual.name ∷ []) us) st e))
+      (same ∙ append_assoc done (StobjNamed actual.name ∷ []) us) st e))
 
   -- ---- calls
 
@@ -206,7 +206,7 @@ module _ (w : World) (threaded : IsThreaded w) (packages : List Package) (limit 
     pub arity : length signature.ins ≡ count forms
     pub runs_there : Runs w f signature
     pub outs_there : call_outs c signature forms ≡ expected
-    pub once : repeats (filter_map (λ v. v) (object_actuals signature.ins forms)) ≡ false
+    pub once : repeats (filter_map (λ v. v) (stobj_actuals signature.ins forms)) ≡ false
 
   pub called_is : (f : ℕ) (forms : Cores) (formal : Option ℕ) (expected : List Out) → Accepted c mode scope (Call f forms) formal expected → HasArity c f (count forms) → IsCalled f forms expected
   unfolding outputs
@@ -221,8 +221,8 @@ module _ (w : World) (threaded : IsThreaded w) (packages : List Package) (limit 
           sym (ap (λ (m : Option Signature). unwrap_or (option_map (λ (s : Signature). call_outs c s forms) m) one_ordinary) arity.1)
           ∙ kinds_same (outs c scope (Call f forms)) expected (not_false (same_kinds (outs c scope (Call f forms)) expected) (s8 c mode (here (Call f forms) scope formal expected) n all.0))
 
-      once_is : repeats (filter_map (λ v. v) (object_actuals arity.0.ins forms)) ≡ false
-      once_is = subst (λ (ins : List Out). repeats (filter_map (λ v. v) (object_actuals ins forms)) ≡ false) ins_are (s2 c mode (here (Call f forms) scope formal expected) n all.0)
+      once_is : repeats (filter_map (λ v. v) (stobj_actuals arity.0.ins forms)) ≡ false
+      once_is = subst (λ (ins : List Out). repeats (filter_map (λ v. v) (stobj_actuals ins forms)) ≡ false) ins_are (s2 c mode (here (Call f forms) scope formal expected) n all.0)
 
       go : (d : Option Definition) → definition c f ≡ d → option_and_then signature_in (definition c f) ≡ Some arity.0 → option_map_or (is_internal c) (definition c f) false ≡ false → option_map_or is_executable (definition c f) true ≡ true
           → IsCalled f forms expected
@@ -261,7 +261,7 @@ module _ (w : World) (threaded : IsThreaded w) (packages : List Package) (limit 
       (called (on_lists w threaded packages limit) ev f) (called (at_places w threaded packages limit) el f) s t
       (subst (λ (ins : List Out). ActualsAccepted c mode scope ins forms) call.ins (of_call c mode scope formal expected f forms all)) formed.1 call.arity stands e
       (λ vs every u v a same st e.
-      let once : repeats (names_in vs) ≡ false = ap repeats (sym (all_of (object_actuals call.signature.ins forms) (names_in vs) a.there)) ∙ call.once in
+      let once : repeats (names_in vs) ≡ false = ap repeats (sym (all_of (stobj_actuals call.signature.ins forms) (names_in vs) a.there)) ∙ call.once in
       subst (λ (all : List (Shown ℕ)). Meet w (AreOutputs scope expected) (May scope expected) (IsStobj scope) u v (called (on_lists w threaded packages limit) ev f all u) (called (at_places w threaded packages limit) el f all v)) (sym same)
       (subst (λ (outs : List Out). Meet w (AreOutputs scope outs) (May scope outs) (IsStobj scope) u v (called (on_lists w threaded packages limit) ev f vs u) (called (at_places w threaded packages limit) el f vs v))
       (results_are call.signature forms vs expected a once call.outs_there)

@@ -10,13 +10,13 @@ use Rattle.model_eval.specs.Outcomes.{Shown, Steps, Stobjs, StateOf, State, Outc
 use Rattle.model_eval.specs.Keeping.{Loan, put_all, ending_loans, taken_back}
 use Rattle.model_eval.specs.ListsKeeping.{lists_keeping, all_put}
 use Rattle.model_eval.specs.PlacesKeeping.{Closed, Places, Store, lent_places, list_under, with_under, places_keeping}
-use Rattle.model_eval.specs.Scopes.{list_of, with_list}
-use Rattle.model_eval.specs.Children.{lent, put_into_parent}
+use Rattle.model_eval.specs.Variables.{list_of, with_list}
+use Rattle.model_eval.specs.Lending.{lent, put_into_parent}
 use Rattle.model_eval.specs.Evaluated.{put_back}
 use Rattle.model_eval_laws.specs.Scope.{names, is_among}
 use Rattle.model_eval_laws.proofs.Lists.{names_write, list_widened}
 use Rattle.model_accepted.specs.Threaded.{IsThreaded}
-use Rattle.model_accepted.specs.Scopes.{IsStobj}
+use Rattle.model_accepted.specs.StobjScopes.{IsStobj}
 use Rattle.model_in_place.specs.Standing.{Stands, AreSame}
 use Rattle.model_in_place.specs.Writes.{Write, stobjs_after, MovesIf, Moves, Meet, writes_beside}
 use Rattle.model_accepted.specs.Loans.{children, path_of, path_for, HaveParent, IsApartFrom, HaveApartPaths, merged, raised, loans_among, AreLent, IsInside}

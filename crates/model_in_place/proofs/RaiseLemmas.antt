@@ -7,12 +7,12 @@ use Rattle.model_terms.specs.Classes.{has, repeats}
 use Rattle.model_eval.specs.Outcomes.{Stobjs}
 use Rattle.model_eval.specs.Keeping.{Loan}
 use Rattle.model_eval.specs.PlacesKeeping.{Closed, Place, Places, Store, place_of, below, lent_places, list_under, with_under, list_at, with_list_at}
-use Rattle.model_eval.specs.Scopes.{list_of, with_list}
-use Rattle.model_eval.specs.Children.{lent}
+use Rattle.model_eval.specs.Variables.{list_of, with_list}
+use Rattle.model_eval.specs.Lending.{lent}
 use Rattle.model_eval_laws.specs.Scope.{names, is_among}
 use Rattle.model_eval_laws.proofs.Lists.{names_write, write_widened, names_append, among_first, among_more}
 use Rattle.model_places.specs.Places.{AreApart, IsPath, IsPlace}
-use Rattle.model_accepted.specs.Scopes.{IsStobj}
+use Rattle.model_accepted.specs.StobjScopes.{IsStobj}
 use Rattle.model_accepted.specs.Threaded.{Fits}
 use Rattle.model_in_place.specs.Standing.{Stands}
 use Rattle.model_in_place.specs.Writes.{Write, stobjs_after, roots_after, AreWrites, writes_beside}
@@ -43,14 +43,14 @@ module _ (w : World) (scope : Scope) (p : ℕ) (here : IsStobj scope p) (places 
   abbrev inner : Places
   inner = lent_places ls places ++ places
 
-  -- what the same writes do to the objects around
+  -- what the same writes do to the stobjs around
   pub record Raised (us : List Write) (kids os : Stobjs ℕ) (roots : List (StobjList ℕ)) : Type 0 where
     pub ups : List Write
     pub allowed : AreWrites w Then ups
     pub lists : stobjs_after ups (raised p qs kids os) ≡ raised p qs (stobjs_after us kids) (stobjs_after (writes_beside (children ls) us) os)
     pub stores : roots_after places ups roots ≡ roots_after inner us roots
 
-  -- the caller's objects in place
+  -- the caller's stobjs in place
   abbrev Around : Stobjs ℕ → Stobjs ℕ → List (StobjList ℕ) → Type 0
   Around kids os roots = Stands w scope (raised p qs kids os) (record { scope = places; roots = roots; journal = Closed })
 
@@ -73,7 +73,7 @@ module _ (w : World) (scope : Scope) (p : ℕ) (here : IsStobj scope p) (places 
       ∙ (sym (write_below (place_of places p) (path_for ls x) l roots (stands.places p here))
       ∙ ap (λ (q : Place). with_list_at q l roots) (sym (place_kid p ls places places x parents j)))
 
-  -- one write to another object
+  -- one write to another stobj
   other_lists : (x : ℕ) (l : StobjList ℕ) (kids os : Stobjs ℕ) → x ≢ p → with_list x l (raised p qs kids os) ≡ raised p qs kids (with_list x l os)
   other_lists x l kids os d =
       written_commutes x p l (merged qs kids (list_of os p)) os d

@@ -4,13 +4,13 @@ use Rattle.std.specs.Prelude.{◌≢◌, ◌⊎◌, nat_lt, if◌then◌else◌,
 use Rattle.model_lists.specs.Lists.{StobjList}
 use Rattle.model_terms.specs.Worlds.{World, Out, Ordinary, Scope}
 use Rattle.model_terms.specs.Worlds as worlds
-use Rattle.model_eval.specs.Outcomes.{Shown, Plain, Stobj, Stop, Steps, Stobjs, StateOf, State, OutcomeOf, Outcome, Origin, Gives, Stops, Unknown, then_with, here, stops_here, one_more_call, counting}
+use Rattle.model_eval.specs.Outcomes.{Shown, Plain, StobjNamed, Stop, Steps, Stobjs, StateOf, State, OutcomeOf, Outcome, Origin, Gives, Stops, Unknown, then_with, here, stops_here, one_more_call, counting}
 use Rattle.model_eval.specs.PlacesKeeping.{Places, Closed, Store, place_of, list_at, with_list_at}
-use Rattle.model_eval.specs.Scopes.{list_of, with_list}
+use Rattle.model_eval.specs.Variables.{list_of, with_list}
 use Rattle.model_eval_laws.specs.Scope.{is_among}
 use Rattle.model_eval_laws.proofs.Lists.{names_write}
 use Rattle.model_places.specs.Places.{AreApart, IsPlace}
-use Rattle.model_accepted.specs.Scopes.{IsStobj, AreOutputs}
+use Rattle.model_accepted.specs.StobjScopes.{IsStobj, AreOutputs}
 use Rattle.model_accepted.specs.Threaded.{Fits}
 use Rattle.model_in_place.specs.Standing.{Stands, AreSame}
 use Rattle.model_in_place.specs.Writes.{Write, stobjs_after, roots_after, AreWrites, MovesIf, Moves, Meet}
@@ -159,7 +159,7 @@ module _ (w : World) where
     same = h.same;
   }
 
-  -- what still stands after writes to objects in scope
+  -- what still stands after writes to stobjs in scope
   pub stands_moved : (scope : Scope) (May : ℕ → Type 0) (s : State ℕ) (t : StateOf (Store ℕ)) (u : State ℕ) (v : StateOf (Store ℕ))
       → ((x : ℕ) → May x → IsStobj scope x) → Stands w scope s.stobjs t.stobjs → Moves w May s t u v → Stands w scope u.stobjs v.stobjs
   stands_moved scope May s t u v m stands h =
@@ -267,9 +267,9 @@ outputs_wider inner outer [] [] f h = tt
 outputs_wider inner outer [] (v ∷ vs) f h = absurd h
 outputs_wider inner outer (k ∷ ks) [] f h = absurd h
 outputs_wider inner outer (Ordinary ∷ ks) (Plain o ∷ vs) f h = (tt, outputs_wider inner outer ks vs f h.1)
-outputs_wider inner outer (Ordinary ∷ ks) (Stobj y ∷ vs) f h = absurd h.0
+outputs_wider inner outer (Ordinary ∷ ks) (StobjNamed y ∷ vs) f h = absurd h.0
 outputs_wider inner outer (worlds.Stobj x ∷ ks) (Plain o ∷ vs) f h = absurd h.0
-outputs_wider inner outer (worlds.Stobj x ∷ ks) (Stobj y ∷ vs) f h = ((h.0.0, f x h.0.1), outputs_wider inner outer ks vs f h.1)
+outputs_wider inner outer (worlds.Stobj x ∷ ks) (StobjNamed y ∷ vs) f h = ((h.0.0, f x h.0.1), outputs_wider inner outer ks vs f h.1)
 
 pub stands_less : (w : World) (inner outer : Scope) (stobjs : Stobjs ℕ) (store : Store ℕ) → ((x : ℕ) → IsStobj inner x → IsStobj outer x) → Stands w outer stobjs store → Stands w inner stobjs store
 stands_less w inner outer stobjs store f h = record {

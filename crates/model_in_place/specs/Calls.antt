@@ -1,12 +1,12 @@
--- The objects of a call: each formal with its actual.
+-- The stobjs of a call: each formal with its actual.
 use Rattle.std.specs.Prelude.{◌≡◌, ℕ, List, [], ◌∷◌, nat_eq, if◌then◌else◌}
 use Rattle.model_terms.specs.Worlds.{World, Out, Ordinary, Scope, Signature}
 use Rattle.model_terms.specs.Worlds as worlds
-use Rattle.model_eval.specs.Outcomes.{Shown, Plain, Stobj, Stobjs}
+use Rattle.model_eval.specs.Outcomes.{Shown, Plain, StobjNamed, Stobjs}
 use Rattle.model_eval.specs.PlacesKeeping.{Places, place_of}
-use Rattle.model_eval.specs.Scopes.{list_of, with_list}
+use Rattle.model_eval.specs.Variables.{list_of, with_list}
 use Rattle.model_accepted.specs.Threaded.{layout_of}
-use Rattle.model_accepted.specs.Scopes.{IsStobj}
+use Rattle.model_accepted.specs.StobjScopes.{IsStobj}
 use Rattle.model_in_place.specs.Writes.{Write}
 
 abbrev pub Pairs : Type 0
@@ -16,12 +16,12 @@ abbrev pub pairs_of : List ℕ → List (Shown ℕ) → Pairs
 pairs_of [] vs = []
 pairs_of (x ∷ xs) [] = []
 pairs_of (x ∷ xs) (Plain o ∷ vs) = pairs_of xs vs
-pairs_of (x ∷ xs) (Stobj y ∷ vs) = (x, y) ∷ pairs_of xs vs
+pairs_of (x ∷ xs) (StobjNamed y ∷ vs) = (x, y) ∷ pairs_of xs vs
 
 abbrev pub names_in : List (Shown ℕ) → List ℕ
 names_in [] = []
 names_in (Plain o ∷ vs) = names_in vs
-names_in (Stobj y ∷ vs) = y ∷ names_in vs
+names_in (StobjNamed y ∷ vs) = y ∷ names_in vs
 
 abbrev pub firsts : Pairs → List ℕ
 firsts [] = []
@@ -52,7 +52,7 @@ abbrev pub writes_out : Pairs → List Write → List Write
 writes_out ps [] = []
 writes_out ps (u ∷ us) = (actual ps u.0, u.1) ∷ writes_out ps us
 
--- each actual is an object in scope that may stand for its formal
+-- each actual is a stobj in scope that may stand for its formal
 abbrev pub ArePairs : World → Scope → Pairs → Type 0
 ArePairs w scope [] = Unit {0}
 ArePairs w scope (p ∷ ps) = IsStobj scope p.1 × (layout_of w p.0 ≡ layout_of w p.1) × ArePairs w scope ps
@@ -60,9 +60,9 @@ ArePairs w scope (p ∷ ps) = IsStobj scope p.1 × (layout_of w p.0 ≡ layout_o
 -- the arguments of a function with these inputs
 abbrev pub IsArgument : World → Scope → Out → Shown ℕ → Type 0
 IsArgument w scope Ordinary (Plain o) = Unit {0}
-IsArgument w scope Ordinary (Stobj y) = ⊥
+IsArgument w scope Ordinary (StobjNamed y) = ⊥
 IsArgument w scope (worlds.Stobj x) (Plain o) = ⊥
-IsArgument w scope (worlds.Stobj x) (Stobj y) = IsStobj scope y × (layout_of w x ≡ layout_of w y)
+IsArgument w scope (worlds.Stobj x) (StobjNamed y) = IsStobj scope y × (layout_of w x ≡ layout_of w y)
 
 abbrev pub AreArguments : World → Scope → List Out → List (Shown ℕ) → Type 0
 AreArguments w scope [] [] = Unit {0}

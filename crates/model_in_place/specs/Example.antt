@@ -1,4 +1,4 @@
--- A world of an object with a child, and a function that writes the child: what is asked of worlds, and what comes of it.
+-- A world of a stobj with a child, and a function that writes the child: what is asked of worlds, and what comes of it.
 use Rattle.std.specs.Prelude.{◌≡◌, ℕ, pos, List, [], ◌∷◌, true, Option, Some, None}
 use Rattle.model_objects.specs.Object.{Integer}
 use Rattle.model_lists.specs.Lists.{StobjList, Value, End, Item}
@@ -21,7 +21,7 @@ abbrev pub parent_fields : List Field
 parent_fields = record { name = 17; shape = Child 1; made = 14 ∷ 15 ∷ 16 ∷ [] } ∷ []
 
 abbrev pub made_function : ℕ → ℕ → Option ℕ → Role → List Out → List Out → Definition
-made_function name object field r ins outs = Generated (record { name = name; object = object; field = field; role = r; signature = record { ins = ins; outs = outs } })
+made_function name stobj field r ins outs = Generated (record { name = name; stobj = stobj; field = field; role = r; signature = record { ins = ins; outs = outs } })
 
 -- (stobj-let ((1 (15 10))) (1) (6 5 1) 10)
 abbrev pub body : Core
@@ -54,7 +54,7 @@ call = Call 20 (more (Var 10) none)
 abbrev pub stobjs : Stobjs ℕ
 stobjs = (10, Item (Item (Value (Integer (pos 0))) End) End) ∷ []
 
--- the list of the first object, or of the first root, after an evaluation
+-- the list of the first stobj, or of the first root, after an evaluation
 abbrev pub first_stobj : Stobjs ℕ → Option (StobjList ℕ)
 first_stobj [] = None
 first_stobj (o ∷ os) = Some o.1

@@ -5,11 +5,11 @@ use Rattle.model_terms.specs.Worlds.{World}
 use Rattle.model_terms.specs.Classes.{has}
 use Rattle.model_eval.specs.Outcomes.{Shown, Stobjs, StateOf, State, OutcomeOf, Outcome, Gives, Stops, Unknown}
 use Rattle.model_eval.specs.PlacesKeeping.{Places, Closed, Store, place_of, with_list_at}
-use Rattle.model_eval.specs.Scopes.{with_list}
+use Rattle.model_eval.specs.Variables.{with_list}
 use Rattle.model_accepted.specs.Threaded.{Fits}
 use Rattle.model_in_place.specs.Standing.{AreSame}
 
--- an object by its name, and its new list
+-- a stobj by its name, and its new list
 abbrev pub Write : Type 0
 Write = ℕ × StobjList ℕ
 
@@ -21,7 +21,7 @@ abbrev pub roots_after : Places → List Write → List (StobjList ℕ) → List
 roots_after scope [] roots = roots
 roots_after scope (u ∷ us) roots = roots_after scope us (with_list_at (place_of scope u.0) u.1 roots)
 
--- each writes such an object, and a list that it may have
+-- each writes such a stobj, and a list that it may have
 abbrev pub AreWrites : World → (ℕ → Type 0) → List Write → Type 0
 AreWrites w May [] = Unit {0}
 AreWrites w May (u ∷ us) = May u.0 × Fits w u.0 u.1 × AreWrites w May us

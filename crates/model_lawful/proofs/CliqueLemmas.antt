@@ -6,7 +6,7 @@ use Rattle.std.specs.List.{AllByRecursion}
 use Rattle.model_terms.specs.declared.rule.Mode.TheVariants.{Executable}
 use Rattle.model_terms.specs.Cores.{Core, Place}
 use Rattle.model_terms.specs.Worlds.{World, Function, Out, Ordinary, Stobj, Scope, Signature}
-use Rattle.model_terms.specs.Classes.{has, repeats, is_object_name}
+use Rattle.model_terms.specs.Classes.{has, repeats, is_stobj_name}
 use Rattle.model_terms.specs.Outputs.{signature_of}
 use Rattle.model_terms.specs.Rounds.{Member, formal_kind, formal_kinds, formal_entry, formal_scope}
 use Rattle.model_terms.specs.Sites.{one_ordinary}
@@ -25,10 +25,10 @@ none_at : (outer : Place) (a : Option Fault) → at outer a ≡ None → a ≡ N
 none_at outer None e = refl
 none_at outer (Some f) e = cc
 
--- formals, each ordinary or the object of its name
+-- formals, each ordinary or the stobj of its name
 kinds_are : (c : World) (stobjs xs : List ℕ) → AreFormals xs (map (formal_kind c stobjs) xs)
 kinds_are c stobjs [] = tt
-kinds_are c stobjs (x ∷ xs) = go (has stobjs x) (is_object_name c x) (kinds_are c stobjs xs)
+kinds_are c stobjs (x ∷ xs) = go (has stobjs x) (is_stobj_name c x) (kinds_are c stobjs xs)
   where
     go : (a b : Bool) → AreFormals xs (map (formal_kind c stobjs) xs) → AreFormals (x ∷ xs) ((if a then (if b then Stobj x else Ordinary) else Ordinary) ∷ map (formal_kind c stobjs) xs)
     go true true h = (refl, h)

@@ -5,9 +5,9 @@ use Rattle.model_lists.specs.Layouts.{Layout, field_layout}
 use Rattle.model_terms.specs.Cores.{Core}
 use Rattle.model_terms.specs.Worlds.{World, Definition, Function, GeneratedFunction, FunctionOfAbstract, definition, Primitive, Defined, Macro, Constant, Concrete, Generated, Abstract, OfAbstract, Named, Signed, Out, Signature}
 use Rattle.model_terms.specs.Outputs.{signature_in}
-use Rattle.model_terms.specs.Children.{is_internal, is_kept_back, is_executable}
+use Rattle.model_terms.specs.Accessors.{is_internal, is_kept_back, is_executable}
 use Rattle.model_eval_laws.specs.Agreement.{StandsIn}
-use Rattle.model_eval_alike.specs.Standing.{SuitsRole}
+use Rattle.model_eval_alike.specs.FunctionLaws.{SuitsRole}
 use Rattle.model_accepted.specs.Threaded.{Runs, IsChecked, IsAdmitted, IsMade, IsConcrete, IsExport, IsThreaded}
 use Rattle.model_lawful.specs.Growth.{IsSettled, Becomes}
 use Rattle.model_lawful.specs.Lawful.{WasChecked, WasAdmitted, WasExported, IsReady, IsLawful, IsSigned, LawfulWorlds}
@@ -81,14 +81,14 @@ module _ (w new : World) (l : IsLawful w) (b : Becomes w new) where
   checked_later : (formals : List ℕ) (ins : List Out) (form : Core) (expected : List Out) → WasChecked w formals ins form expected → WasChecked new formals ins form expected
   checked_later formals ins form expected h = record { world = h.world; closed = h.closed; lawful = h.lawful; becomes = becomes_then h.world w new h.becomes b; accepted = h.accepted; formed = h.formed }
 
-  made_later : (g : GeneratedFunction) → StandsIn w g.object → IsMade w g → IsMade new g
+  made_later : (g : GeneratedFunction) → StandsIn w g.stobj → IsMade w g → IsMade new g
   made_later g s h = record {
     outs = h.outs;
     only = h.only;
-    suits = subst (λ (k : Layout ℕ). SuitsRole g.role (field_layout (unwrap_or g.field 0) k)) (sym (same_layout w new l.closed b g.object s)) h.suits;
+    suits = subst (λ (k : Layout ℕ). SuitsRole g.role (field_layout (unwrap_or g.field 0) k)) (sym (same_layout w new l.closed b g.stobj s)) h.suits;
   }
 
-  -- a function that runs, and is of no abstract object, still does
+  -- a function that runs, and is of no abstract stobj, still does
   record RunsStill (f : ℕ) (s : Signature) : Type 0 where
     runs : Runs new f s
     concrete : IsConcrete runs.there
@@ -136,9 +136,9 @@ module _ (w new : World) (l : IsLawful w) (b : Becomes w new) where
         distinct = h.distinct;
         guard = checked_later _ _ _ _ h.guard;
         foundation = h.foundation;
-        object_there = stands_later f.object h.object_there;
+        stobj_there = stands_later f.stobj h.stobj_there;
         foundation_there = stands_later h.foundation h.foundation_there;
-        alike = same_layout w new l.closed b f.object h.object_there ∙ (h.alike ∙ sym (same_layout w new l.closed b h.foundation h.foundation_there));
+        alike = same_layout w new l.closed b f.stobj h.stobj_there ∙ (h.alike ∙ sym (same_layout w new l.closed b h.foundation h.foundation_there));
         signature = h.signature;
         runs = still.runs;
         concrete = still.concrete;
@@ -156,7 +156,7 @@ module _ (w new : World) (l : IsLawful w) (b : Becomes w new) where
   ready_later x (Constant name value) e h = tt
   ready_later x (Concrete d class) e h = tt
   ready_later x (Generated g) e h = λ kept.
-      let s : StandsIn w g.object = l.closed.definitions x (Generated g) e in
+      let s : StandsIn w g.stobj = l.closed.definitions x (Generated g) e in
       made_later g s (h (ap (is_kept_back g.role) (sym (same_held w new l.closed b g s)) ∙ kept))
   ready_later x (Abstract d) e h = tt
   ready_later x (OfAbstract f) e h = ((λ r. exported_later f (h.0 r)), h.1)

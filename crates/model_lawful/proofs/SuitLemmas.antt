@@ -10,9 +10,9 @@ use Rattle.model_terms.specs.Classes.{class_in, class_of, same_class, congruent}
 use Rattle.model_terms.specs.Outputs.{signature_in}
 use Rattle.model_terms.specs.declared.role.Role.{Role}
 use Rattle.model_terms.specs.declared.role.Role.TheVariants as role
-use Rattle.model_terms.specs.Children.{Holds, One, Many, ChildAccessor, child_accessor, accessor_in, accessor_to, descriptor_in, descriptor_of, held_by, held_in, is_kept_back, is_internal, is_executable}
-use Rattle.model_eval.specs.Worlds.{layout_within, defined_layout, fields_layout, shape_layout, most_nested}
-use Rattle.model_eval.specs.Children as eval
+use Rattle.model_terms.specs.Accessors.{HeldStobjs, One, Many, ChildAccessor, child_accessor, accessor_in, accessor_to, descriptor_in, descriptor_of, held_by, held_in, is_kept_back, is_internal, is_executable}
+use Rattle.model_eval.specs.StobjLayouts.{layout_within, defined_layout, fields_layout, shape_layout, most_nested}
+use Rattle.model_eval.specs.Lending as eval
 use Rattle.model_eval_laws.specs.Agreement.{ShapeStands, FieldsStand, ClosedDefinition, StandsIn, IsClosedWorld}
 use Rattle.model_accepted.specs.Threaded.{layout_of, IsField, IsHeld, Runs, Reaches}
 use Rattle.model_lawful.specs.Growth.{IsSettled, Becomes, SuitsWhatItBecomes}
@@ -30,8 +30,8 @@ module _ (c w : World) (closed : IsClosedWorld c) (b : Becomes c w) where
     same_shape (worlds.Scalar written initial) h = refl
     same_shape (worlds.Array written initial length resizable) h = refl
     same_shape (worlds.Hash test) h = refl
-    same_shape (worlds.Child object) h = same object h
-    same_shape (worlds.Children object length) h = ap (layout.Children length) (same object h)
+    same_shape (worlds.Child stobj) h = same stobj h
+    same_shape (worlds.Children stobj length) h = ap (layout.Children length) (same stobj h)
 
     same_fields : (fs : List Field) → FieldsStand (StandsIn c) fs → fields_layout see one fs ≡ fields_layout see other fs
     same_fields [] h = refl
@@ -73,9 +73,9 @@ module _ (c w : World) (closed : IsClosedWorld c) (b : Becomes c w) where
   same_descriptor x (Named name formals) e i = rw (e, i) refl
   same_descriptor x (Signed name formals signature executable) e i = rw (e, i.1) refl
 
-  pub same_held : (g : GeneratedFunction) → StandsIn c g.object → held_in w g ≡ held_in c g
+  pub same_held : (g : GeneratedFunction) → StandsIn c g.stobj → held_in w g ≡ held_in c g
   same_held g s =
-      ap (λ (d : Option Descriptor). option_and_then (λ (e : Field). held_by e.shape) (option_and_then (λ k. option_and_then (λ (d : Descriptor). slice_get d.fields k) d) g.field)) (same_descriptor g.object s.0 s.1 (b.each g.object s.0 s.1))
+      ap (λ (d : Option Descriptor). option_and_then (λ (e : Field). held_by e.shape) (option_and_then (λ k. option_and_then (λ (d : Descriptor). slice_get d.fields k) d) g.field)) (same_descriptor g.stobj s.0 s.1 (b.each g.stobj s.0 s.1))
 
   -- ---- functions
 
@@ -95,7 +95,7 @@ module _ (c w : World) (closed : IsClosedWorld c) (b : Becomes c w) where
       go (Signed name formals signature executable) e signed kept run h i =
           record { there = Defined i.0; stands = i.1; signed = ap (λ (s : Signature). Some s) i.2 ∙ signed; callable = refl; executable = i.3 ∙ run }
 
-  -- ---- objects
+  -- ---- stobjs
 
   stands_class : (x : ℕ) (a : Option ℕ) → class_of c x ≡ a → (k : ℕ) → a ≡ Some k → StandsIn c x
   stands_class x a e k f = go (definition c x) refl (e ∙ f)
@@ -116,28 +116,28 @@ module _ (c w : World) (closed : IsClosedWorld c) (b : Becomes c w) where
   record IsReached (f : ℕ) (a : ChildAccessor) : Type 0 where
     function : GeneratedFunction
     there : definition c f ≡ Some (Generated function)
-    object : StandsIn c a.object
+    stobj : StandsIn c a.stobj
     held : (x : ℕ) → (a.holds ≡ One x) → StandsIn c x
     holds : (x : ℕ) → (a.holds ≡ Many x) → StandsIn c x
 
-  -- the objects of a field that is one of these
+  -- the stobjs of a field that is one of these
   field_stands : (fs : List Field) (k : ℕ) (e : Field) → FieldsStand (StandsIn c) fs → slice_get fs k ≡ Some e → ShapeStands (StandsIn c) e.shape
   field_stands [] k e h g = none_some g
   field_stands (f ∷ fs) zero e h g = subst (λ (q : Field). ShapeStands (StandsIn c) q.shape) (some_same g) h.0
   field_stands (f ∷ fs) (suc k) e h g = field_stands fs k e h.1 g
 
-  held_stands : (s : Shape) (h : Holds) → ShapeStands (StandsIn c) s → held_by s ≡ Some h → ((x : ℕ) → (h ≡ One x) → StandsIn c x) × ((x : ℕ) → (h ≡ Many x) → StandsIn c x)
+  held_stands : (s : Shape) (h : HeldStobjs) → ShapeStands (StandsIn c) s → held_by s ≡ Some h → ((x : ℕ) → (h ≡ One x) → StandsIn c x) × ((x : ℕ) → (h ≡ Many x) → StandsIn c x)
   held_stands (worlds.Scalar written initial) h i e = none_some e
   held_stands (worlds.Array written initial length resizable) h i e = none_some e
   held_stands (worlds.Hash test) h i e = none_some e
-  held_stands (worlds.Child object) h i e = ((λ x f. subst (StandsIn c) (one_same (some_same e ∙ f)) i), (λ x f. one_many (some_same e ∙ f)))
+  held_stands (worlds.Child stobj) h i e = ((λ x f. subst (StandsIn c) (one_same (some_same e ∙ f)) i), (λ x f. one_many (some_same e ∙ f)))
     where
       one_same : {x y : ℕ} → One x ≡ One y → x ≡ y
       one_same g = cc
 
       one_many : {A : Type 0} {x y : ℕ} → One x ≡ Many y → A
       one_many g = cc
-  held_stands (worlds.Children object length) h i e = ((λ x f. many_one (some_same e ∙ f)), (λ x f. subst (StandsIn c) (many_same (some_same e ∙ f)) i))
+  held_stands (worlds.Children stobj length) h i e = ((λ x f. many_one (some_same e ∙ f)), (λ x f. subst (StandsIn c) (many_same (some_same e ∙ f)) i))
     where
       many_same : {x y : ℕ} → Many x ≡ Many y → x ≡ y
       many_same g = cc
@@ -145,9 +145,9 @@ module _ (c w : World) (closed : IsClosedWorld c) (b : Becomes c w) where
       many_one : {A : Type 0} {x y : ℕ} → Many x ≡ One y → A
       many_one g = cc
 
-  -- the accessor of a child is a function of an object, of a field that holds it
-  accessor_role : (g : GeneratedFunction) (r : Role) (k : Option ℕ) (h : Option Holds) (a : ChildAccessor) → accessor_to g r k h ≡ Some a
-      → (n : ℕ) × (m : Holds) × (h ≡ Some m) × (a ≡ record { object = g.object; field = n; holds = m })
+  -- the accessor of a child is a function of a stobj, of a field that holds it
+  accessor_role : (g : GeneratedFunction) (r : Role) (k : Option ℕ) (h : Option HeldStobjs) (a : ChildAccessor) → accessor_to g r k h ≡ Some a
+      → (n : ℕ) × (m : HeldStobjs) × (h ≡ Some m) × (a ≡ record { stobj = g.stobj; field = n; holds = m })
   accessor_role g role.Access (Some n) (Some m) a e = (n, m, refl, sym (some_same e))
   accessor_role g role.Access (Some n) None a e = none_some e
   accessor_role g role.Access None h a e = none_some e
@@ -165,8 +165,8 @@ module _ (c w : World) (closed : IsClosedWorld c) (b : Becomes c w) where
   accessor_role g role.HashCount k h a e = none_some e
   accessor_role g role.HashClear k h a e = none_some e
 
-  -- the objects that a held field names stand
-  abbrev HoldsStand : Holds → Type 0
+  -- the stobjs that a held field names stand
+  abbrev HoldsStand : HeldStobjs → Type 0
   HoldsStand m = ((x : ℕ) → (m ≡ One x) → StandsIn c x) × ((x : ℕ) → (m ≡ Many x) → StandsIn c x)
 
   fields_of : (x : ℕ) (d : Descriptor) → descriptor_of c x ≡ Some d → FieldsStand (StandsIn c) d.fields
@@ -188,11 +188,11 @@ module _ (c w : World) (closed : IsClosedWorld c) (b : Becomes c w) where
       go None f g = none_some g
       go (Some q) f g = concrete q g (closed.definitions x q f)
 
-  held_are : (g : GeneratedFunction) (m : Holds) → held_in c g ≡ Some m → HoldsStand m
-  held_are g m e = by_field g.field (descriptor_of c g.object) refl e
+  held_are : (g : GeneratedFunction) (m : HeldStobjs) → held_in c g ≡ Some m → HoldsStand m
+  held_are g m e = by_field g.field (descriptor_of c g.stobj) refl e
     where
-      by_field : (k : Option ℕ) (d : Option Descriptor) → descriptor_of c g.object ≡ d
-          → option_and_then (λ (e : Field). held_by e.shape) (option_and_then (λ k. option_and_then (λ (d : Descriptor). slice_get d.fields k) (descriptor_of c g.object)) k) ≡ Some m → HoldsStand m
+      by_field : (k : Option ℕ) (d : Option Descriptor) → descriptor_of c g.stobj ≡ d
+          → option_and_then (λ (e : Field). held_by e.shape) (option_and_then (λ k. option_and_then (λ (d : Descriptor). slice_get d.fields k) (descriptor_of c g.stobj)) k) ≡ Some m → HoldsStand m
       by_field None d f h = none_some h
       by_field (Some k) None f h =
           none_some (ap (λ (d : Option Descriptor). option_and_then (λ (e : Field). held_by e.shape) (option_and_then (λ (d : Descriptor). slice_get d.fields k) d)) (sym f) ∙ h)
@@ -201,17 +201,17 @@ module _ (c w : World) (closed : IsClosedWorld c) (b : Becomes c w) where
         where
           by_shape : (e : Option Field) → slice_get d.fields k ≡ e → option_and_then (λ (e : Field). held_by e.shape) e ≡ Some m → HoldsStand m
           by_shape None i j = none_some j
-          by_shape (Some e) i j = held_stands e.shape m (field_stands d.fields k e (fields_of g.object d f) i) j
+          by_shape (Some e) i j = held_stands e.shape m (field_stands d.fields k e (fields_of g.stobj d f) i) j
 
   is_reached : (f : ℕ) (a : ChildAccessor) → child_accessor c f ≡ Some a → IsReached f a
   is_reached f a e = go (definition c f) refl e
     where
       by_definition : (d : Definition) → definition c f ≡ Some d → accessor_in c d ≡ Some a → IsReached f a
       by_definition (Generated g) i j =
-          let k : (n : ℕ) × (m : Holds) × (held_in c g ≡ Some m) × (a ≡ record { object = g.object; field = n; holds = m }) = accessor_role g g.role g.field (held_in c g) a j in
+          let k : (n : ℕ) × (m : HeldStobjs) × (held_in c g ≡ Some m) × (a ≡ record { stobj = g.stobj; field = n; holds = m }) = accessor_role g g.role g.field (held_in c g) a j in
           let stand : HoldsStand k.1 = held_are g k.1 k.2 in
           subst (IsReached f) (sym k.3)
-          (record { function = g; there = i; object = closed.definitions f (Generated g) i; held = stand.0; holds = stand.1 })
+          (record { function = g; there = i; stobj = closed.definitions f (Generated g) i; held = stand.0; holds = stand.1 })
       by_definition (Primitive name row) i j = none_some j
       by_definition (Defined g) i j = none_some j
       by_definition (Macro name formals body) i j = none_some j
@@ -226,7 +226,7 @@ module _ (c w : World) (closed : IsClosedWorld c) (b : Becomes c w) where
       go None i j = none_some j
       go (Some d) i j = by_definition d i j
 
-  held_later : (m : Holds) (field : Layout ℕ) → HoldsStand m → IsHeld c m field → IsHeld w m field
+  held_later : (m : HeldStobjs) (field : Layout ℕ) → HoldsStand m → IsHeld c m field → IsHeld w m field
   held_later (One x) field s h = h ∙ sym (same_layout x (s.0 x refl))
   held_later (Many x) field s h = (h.0, h.1 ∙ ap (layout.Children h.0) (sym (same_layout x (s.1 x refl))))
 
@@ -234,9 +234,9 @@ module _ (c w : World) (closed : IsClosedWorld c) (b : Becomes c w) where
   reaches_later f a e h =
       let r : IsReached f a = is_reached f a e in
       record {
-        number = ap eval.field_of (b.each f (Generated r.function) r.there ∙ sym r.there) ∙ h.number;
+        number = ap eval.field_number (b.each f (Generated r.function) r.there ∙ sym r.there) ∙ h.number;
         field = h.field;
-        there = subst (λ (l : Layout ℕ). IsField a.field l h.field) (sym (same_layout a.object r.object)) h.there;
+        there = subst (λ (l : Layout ℕ). IsField a.field l h.field) (sym (same_layout a.stobj r.stobj)) h.there;
         held = held_later a.holds h.field (r.held, r.holds) h.held;
       }
 

@@ -4,7 +4,7 @@ use Rattle.std.specs.List.{AllByRecursion}
 use Rattle.model_terms.specs.Worlds.{World, Function}
 use Rattle.model_terms.specs.Classes.{repeats}
 use Rattle.model_terms.specs.Outputs.{signature_of}
-use Rattle.model_terms.specs.Children.{runs}
+use Rattle.model_terms.specs.Accessors.{runs}
 use Rattle.model_terms.specs.Rounds.{Member, formal_kinds}
 use Rattle.model_terms.specs.Faults.{clique_fault}
 use Rattle.model_eval_laws.specs.Agreement.{IsClosedWorld}

@@ -2,7 +2,7 @@
 use Rattle.std.specs.Prelude.{◌≡◌, ℕ, true, Some}
 use Rattle.model_terms.specs.Worlds.{World, Definition, Function, definition, Primitive, Defined, Macro, Constant, Concrete, Generated, Abstract, OfAbstract, Named, Signed}
 use Rattle.model_terms.specs.Classes.{congruent}
-use Rattle.model_terms.specs.Children.{ChildAccessor, child_accessor}
+use Rattle.model_terms.specs.Accessors.{ChildAccessor, child_accessor}
 use Rattle.model_eval_laws.specs.Agreement.{IsClosedWorld}
 use Rattle.model_accepted.specs.Threaded.{layout_of, Reaches, Suits}
 
@@ -22,7 +22,7 @@ IsSettled w x (Signed name formals signature executable) = (f : Function) × (de
 pub record Becomes (c w : World) : Type 0 where
   pub each : (x : ℕ) (d : Definition) → definition c x ≡ Some d → IsSettled w x d
 
--- congruent objects have one layout, and the accessors of children reach them
+-- congruent stobjs have one layout, and the accessors of children reach them
 pub record HasLawfulStobjs (c : World) : Type 0 where
   pub layouts : (x y : ℕ) → congruent c x y ≡ true → layout_of c x ≡ layout_of c y
   pub accessors : (f : ℕ) (a : ChildAccessor) → child_accessor c f ≡ Some a → Reaches c f a

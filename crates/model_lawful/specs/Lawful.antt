@@ -6,7 +6,7 @@ use Rattle.model_terms.specs.Cores.{Core}
 use Rattle.model_terms.specs.Worlds.{World, Definition, Function, FunctionOfAbstract, definition, Primitive, Defined, Macro, Constant, Concrete, Generated, Abstract, OfAbstract, Named, Signed, Out, Signature}
 use Rattle.model_terms.specs.Classes as classes
 use Rattle.model_terms.specs.Classes.{repeats}
-use Rattle.model_terms.specs.Children.{is_internal}
+use Rattle.model_terms.specs.Accessors.{is_internal}
 use Rattle.model_terms.specs.Sites.{one_ordinary}
 use Rattle.model_terms.specs.Faults.{first_fault}
 use Rattle.model_eval_laws.specs.Agreement.{StandsIn, IsClosedWorld}
@@ -33,14 +33,14 @@ pub record WasExported (w : World) (f : FunctionOfAbstract) : Type 0 where
   pub distinct : repeats f.formals ≡ false
   pub guard : WasChecked w f.formals f.signature.ins f.guard one_ordinary
   pub foundation : ℕ
-  pub object_there : StandsIn w f.object
+  pub stobj_there : StandsIn w f.stobj
   pub foundation_there : StandsIn w foundation
-  pub alike : layout_of w f.object ≡ layout_of w foundation
+  pub alike : layout_of w f.stobj ≡ layout_of w foundation
   pub signature : Signature
   pub runs : Runs w f.exec signature
   pub concrete : IsConcrete runs.there
-  pub ins : f.signature.ins ≡ map (abstracted f.object) signature.ins
-  pub outs : f.signature.outs ≡ map (abstracted f.object) signature.outs
+  pub ins : f.signature.ins ≡ map (abstracted f.stobj) signature.ins
+  pub outs : f.signature.outs ≡ map (abstracted f.stobj) signature.outs
   pub only : classes.stobjs signature.ins ≡ foundation ∷ []
   pub only_outs : AreOnly foundation signature.outs
 

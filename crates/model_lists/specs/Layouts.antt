@@ -1,4 +1,5 @@
--- What an object's list looks like: its fields, with their types and initial values, and those of its children.
+-- What a stobj's list looks like: its fields, with their types and initial values, and those of its children (ACL2's manual,
+-- topic DEFSTOBJ).
 use Rattle.std.specs.Prelude.{ℕ, zero, suc, [], Bool, true, false, ◌&&◌, ◌||◌, nat_eq}
 use Rattle.acl_base.specs.declared.layout.Test.{Test}
 use Rattle.model_objects.specs.Object.{Object, Integer, Symbol, Text, Pair}
@@ -7,7 +8,7 @@ use Rattle.model_prims.specs.Lists.{len, car, cdr}
 use Rattle.model_lists.specs.Lists.{StobjList, Value, Pairs, End, Item}
 use Rattle.model_lists.specs.Types.{ValueType, meets}
 
--- a field, or an object, which is fields before an end
+-- a field, or a stobj, which is fields before an end
 pub data Layout (S : Type 0) : Type 0 where
   Scalar : ValueType S → Object S → Layout S  -- its type and its initial value
   Array : ValueType S → Object S → ℕ → Bool → Layout S  -- of how many elements at first, and whether it is resizable
@@ -20,7 +21,7 @@ abbrev pub repeated : {S : Type 0} → ℕ → StobjList S → StobjList S
 repeated zero x = End
 repeated (suc n) x = Item x (repeated n x)
 
--- the list of a new object
+-- the list of a new stobj
 abbrev pub initial : {S : Type 0} → Layout S → StobjList S
 initial (Scalar t o) = Value o
 initial (Array t o n resizable) = repeated n (Value o)

@@ -4,6 +4,6 @@ pub mod Layouts
 pub mod Kinds
 pub mod Normal
 pub mod Logical
-pub mod Generated
-pub mod Standing
+pub mod Effects
+pub mod LiveLists
 pub mod Listed

@@ -1,4 +1,5 @@
--- The shape of a list that is shown: in the printed object a pair of a hash field and a list of two look alike, and here they do not.
+-- The shape of a list that is shown: in the printed object a pair of a hash field and a list of two look alike, and here they
+-- do not (ACL2's manual, topic STOBJ).
 use Rattle.std.specs.Prelude.{List, [], ◌∷◌, map}
 use Rattle.model_objects.specs.Object.{Object, Pair}
 use Rattle.model_prims.specs.Kinds.{SymbolKind, nil_of}

@@ -1,10 +1,10 @@
--- The list of an object, with the fields that it has: what a single-threaded object stands for.
+-- The list of a stobj, with the fields that it has: what a single-threaded object stands for (ACL2's manual, topic STOBJ).
 use Rattle.std.specs.Prelude.{ℕ, zero, suc, ◌+◌, List, [], ◌∷◌, map, Bool, Option, Some, None, if◌then◌else◌}
 use Rattle.std.specs.Option.{is_some}
 use Rattle.model_objects.specs.Object.{Object, Pair, list_onto}
 use Rattle.model_prims.specs.Kinds.{SymbolKind, nil_of, same_object}
 
--- the fields of an object, the elements of an array, or the children in one, are items before an end
+-- the fields of a stobj, the elements of an array, or the children in one, are items before an end
 pub data StobjList (S : Type 0) : Type 0 where
   Value : Object S → StobjList S  -- a scalar field, or an element
   Pairs : List (Object S × Object S) → StobjList S  -- a hash field: keys with their values, the newest pair first

@@ -1,4 +1,4 @@
--- The functions of an object in the logic: on any objects in place of lists, without a guard.
+-- The functions of an object in the logic: on any objects in place of lists, without a guard (ACL2's manual, topic DEFSTOBJ).
 use Rattle.std.specs.Prelude.{ℕ, zero, suc, ◌+◌, Bool, ◌&&◌, pos, if◌then◌else◌}
 use Rattle.model_objects.specs.Object.{Object, Integer, Symbol, Text, Pair}
 use Rattle.model_prims.specs.Kinds.{SymbolKind, nil_of, truth_of, is_pair, same_object}
@@ -42,7 +42,7 @@ module _ {S : Type 0} (k : SymbolKind S) where
   keys_in (Text bytes) = 0
   keys_in (Pair a d) = if is_pair a then (if is_pair (pair_with (car k a) d) then keys_in d else keys_in d + 1) else keys_in d
 
-  -- ---- fields of an object
+  -- ---- fields of a stobj
 
   abbrev pub field_of : ℕ → Object S → Object S
   field_of f st = element k f st

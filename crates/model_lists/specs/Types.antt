@@ -1,4 +1,4 @@
--- Types: what may stand in a field.
+-- Types: what may stand in a field (ACL2's manual, topic TYPE-SPEC).
 use Rattle.std.specs.Prelude.{ℕ, ◌-◌, ◌^◌, Bool, true, false, not, ◌&&◌, ◌||◌, Option, Some, None, ℤ, pos, neg_ℤ, int_lt, nat_eq, nat_le, if◌then◌else◌}
 use Rattle.model_objects.specs.Object.{Object, Integer, Symbol, Text, Pair}
 use Rattle.model_symbols.specs.Opening.{truth, nil}

@@ -1,2 +1,2 @@
-//! The lists that objects stand for, types, layouts, and what generated functions do. Definitions, and laws about them.
+//! The lists that stobjs stand for, types, layouts, and what generated functions do. Definitions, and laws about them.
 #![tactic(auto)]

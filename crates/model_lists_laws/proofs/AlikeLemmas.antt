@@ -1,4 +1,4 @@
--- What the functions of an object do to lists that stand for one object.
+-- What the functions of a stobj do to lists that stand for one stobj.
 use Rattle.std.proofs.Common.{◌≡◌, ℕ, List, [], ◌∷◌, length, Bool, true, false, Option, refl, sym, ap, ◌∙◌, subst, arith}
 use Rattle.std.specs.Prelude.{◌&&◌, nat_eq, pos, unwrap_or}
 use Rattle.std.specs.Option.{is_some}
@@ -20,9 +20,9 @@ use Rattle.model_lists.specs.Lists.{StobjList, Value, Pairs, size, item, with_it
 use Rattle.model_lists.specs.Types.{meets}
 use Rattle.model_lists.specs.Layouts.{Layout, Scalar, Array, Hash, Children, NoField, Field}
 use Rattle.model_lists.specs.Normal.{name_cmp, normal_pairs, put_in_order}
-use Rattle.model_lists.specs.Standing.{AreAlike}
-use Rattle.model_lists.specs.Generated.{Effect, Refuses, Reads, Writes, is_index, is_up_to, most_elements, when, with_key, accessed, changed, measured, lengthened, hash_read, hash_bound, hash_looked_up, hash_put, hash_removed, hash_counted, hash_cleared}
-use Rattle.model_lists_laws.specs.Standing.{AlikeEffects, Orders, ListsAreReadAlike}
+use Rattle.model_lists.specs.LiveLists.{AreAlike}
+use Rattle.model_lists.specs.Effects.{Effect, Refuses, Reads, Writes, is_index, is_up_to, most_elements, when, with_key, accessed, changed, measured, lengthened, hash_read, hash_bound, hash_looked_up, hash_put, hash_removed, hash_counted, hash_cleared}
+use Rattle.model_lists_laws.specs.LiveListLaws.{AlikeEffects, Orders, ListsAreReadAlike}
 use Rattle.model_lists_laws.proofs.NormalLemmas.{value_normal, same_itself, same_tells, names_total, names_exact}
 use Rattle.model_lists_laws.proofs.PairLemmas.{without_normal, count_normal}
 use Rattle.model_lists_laws.proofs.StandingLemmas.{item_alike, with_alike, size_alike, pairs_alike, scalar_alike, resized_alike}

@@ -17,7 +17,7 @@ use Rattle.model_symbols.proofs.LawLemmas.{names_objects}
 use Rattle.model_prims.specs.Kinds.{SymbolKind, by_number, same_object}
 use Rattle.model_lists.specs.Lists.{StobjList, Value, Pairs, End, Item, pairs_of, value_at}
 use Rattle.model_lists.specs.Normal.{name_cmp, number_cmp, placed, put_in_order, normal_pairs, normal, canonical, pair_cells, list_cells}
-use Rattle.model_lists.specs.Standing.{PairSymbols, ListSymbols}
+use Rattle.model_lists.specs.LiveLists.{PairSymbols, ListSymbols}
 use Rattle.model_lists_laws.specs.Canonical.{IsKnownList, CanonicalLists}
 use Rattle.model_lists_laws.proofs.NormalLemmas.{InOrder, TellsFrom, normal_in_order, normal_twice, same_itself, same_tells, value_put, value_normal, numbers_total, names_exact}
 use Rattle.model_lists_laws.proofs.PairLemmas.{no_value}
@@ -181,7 +181,7 @@ cmp_named symbols (Pair a d) (Symbol t) = refl
 cmp_named symbols (Pair a d) (Text b) = refl
 cmp_named symbols (Pair a d) (Pair b e) = rw (cmp_named symbols a b, cmp_named symbols d e) refl
 
--- known objects that compare as equal are one
+-- known stobjs that compare as equal are one
 known_exact : (symbols : List QualifiedName) → AreDistinct symbols → (x y : Object ℕ) → Knows (length symbols) x → Knows (length symbols) y → object_cmp (number_cmp symbols) x y ≡ Equal → x ≡ y
 known_exact symbols d x y g h e =
     names_objects.injective symbols x y d g h (object_exact name_cmp names_exact (form_of symbols x) (form_of symbols y) (sym (cmp_named symbols x y) ∙ e))

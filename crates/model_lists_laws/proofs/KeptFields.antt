@@ -1,4 +1,4 @@
--- What the functions of an object write has the fields of the layout.
+-- What the functions of a stobj write has the fields of the layout.
 use Rattle.std.proofs.Common.{◌≡◌, ℕ, List, [], ◌∷◌, Bool, true, false}
 use Rattle.std.specs.Prelude.{◌&&◌}
 use Rattle.model_objects.specs.Object.{Object}
@@ -8,9 +8,9 @@ use Rattle.model_prims.specs.Applied.{argument}
 use Rattle.model_lists.specs.Lists.{StobjList, Value, Pairs, size, item, with_item, resized, pairs_of, without_key, scalar_of}
 use Rattle.model_lists.specs.Types.{meets}
 use Rattle.model_lists.specs.Layouts.{Layout, Scalar, Array, Hash, Children, NoField, Field, field_layout}
-use Rattle.model_lists.specs.Standing.{HasFields}
-use Rattle.model_lists.specs.Generated.{Effect, Reads, is_index, is_up_to, may_be_key, most_elements, reads, when, with_key, accessed, hash_read, hash_bound, hash_looked_up, changed, lengthened, hash_put, hash_removed, hash_cleared}
-use Rattle.model_lists_laws.specs.Standing.{KeepsFields, IsHashField, WritesKeepFields}
+use Rattle.model_lists.specs.LiveLists.{HasFields}
+use Rattle.model_lists.specs.Effects.{Effect, Reads, is_index, is_up_to, may_be_key, most_elements, reads, when, with_key, accessed, hash_read, hash_bound, hash_looked_up, changed, lengthened, hash_put, hash_removed, hash_cleared}
+use Rattle.model_lists_laws.specs.LiveListLaws.{KeepsFields, IsHashField, WritesKeepFields}
 use Rattle.model_lists_laws.proofs.StandingLemmas.{field_of_layout, with_field_of_layout, values_with, values_resized}
 
 module _ {S : Type 0} (k : SymbolKind S) where

@@ -1,4 +1,4 @@
--- The kind of a type: each object has a representative.
+-- The kind of a type: each stobj has a representative.
 use Rattle.std.proofs.Common.{◌≡◌, ℕ, ◌+◌, ◌<◌, List, [], ◌∷◌, ◌++◌, map, length, replicate, Bool, true, false, Option, Some, None, refl, sym, ap, ◌∙◌, subst, arith, inl, inr}
 use Rattle.std.specs.Prelude.{◌⊎◌, not, ◌&&◌, ◌||◌, nat_eq, ℤ, pos, negsuc, ◌^◌, int_lt, if◌then◌else◌}
 use Rattle.std.specs.Ordering.{int_eq}
@@ -239,7 +239,7 @@ floor low n (e ∷ es) h = go (int_lt n e) refl (floor low n es h.1)
     go true g f = record { at = f.at; among = keep_among f; sides = (under f g ∙ sym g, f.sides); lower = f.lower }
     go false g f = choose (int_lt f.at e) f refl g
 
--- ---- objects that are no integers
+-- ---- stobjs that are no integers
 
 abbrev NotAmong : Object ℕ → List (Object ℕ) → Type 0
 NotAmong x [] = Unit {0}
@@ -275,7 +275,7 @@ others_meet_alike (Both a b) x y g h i j r =
     (others_meet_alike b x y g h (not_last x (members a) (members b) i) (not_last y (members a) (members b) j) r)
 others_meet_alike (Other a) x y g h i j r = ap not (others_meet_alike a x y g h i j r)
 
--- an object is one of these, or none
+-- a stobj is one of these, or none
 one_or_none : (x : Object ℕ) (es : List (Object ℕ)) → Among x es ⊎ NotAmong x es
 one_or_none x [] = inr tt
 one_or_none x (e ∷ es) = go (same_object by_number x e) refl (one_or_none x es)
@@ -285,7 +285,7 @@ one_or_none x (e ∷ es) = go (same_object by_number x e) refl (one_or_none x es
     go false h (inl a) = inl (among_more x e es a)
     go false h (inr n) = inr (h, n)
 
--- an object of a greater extent than all of these together is none of them
+-- a stobj of a greater extent than all of these together is none of them
 unlisted : (y : Object ℕ) (es : List (Object ℕ)) → total_extent es < extent y → NotAmong y es
 unlisted y [] h = tt
 unlisted y (e ∷ es) h = (go (same_object by_number y e) refl, unlisted y es (omega (arith, h)))
@@ -358,7 +358,7 @@ alist_is_list (Symbol s) h = h
 alist_is_list (Text bytes) h = h
 alist_is_list (Pair a d) h = alist_is_list d (and_parts (is_pair a) (is_alist by_number d) h).1
 
--- ---- a representative of each object
+-- ---- a representative of each stobj
 
 record Represents (t : ValueType ℕ) (x y : Object ℕ) : Type 0 where
   among : Among y (representatives t)

@@ -1,12 +1,12 @@
--- Lists that stand for one object: their items, and items that are written.
+-- Lists that stand for one stobj: their items, and items that are written.
 use Rattle.std.proofs.Common.{◌≡◌, ℕ, zero, suc, ◌+◌, refl, sym, ap, ◌∙◌, subst}
 use Rattle.std.specs.declared.cmp.Ordering.{Ordering}
 use Rattle.model_prims.specs.Kinds.{SymbolKind}
 use Rattle.model_lists.specs.Lists.{StobjList, Value, Pairs, End, Item, size, item, with_item, first_of, rest_of, resized, pairs_of, scalar_of}
 use Rattle.model_lists.specs.Layouts.{Layout, Scalar, Array, Hash, Children, NoField, Field, initial, repeated, field_layout}
 use Rattle.model_lists.specs.Normal.{normal, normal_pairs}
-use Rattle.model_lists.specs.Standing.{AllItems, IsValue, HasFields, AreAlike}
-use Rattle.model_lists_laws.specs.Standing.{NewObjectsStand}
+use Rattle.model_lists.specs.LiveLists.{AllItems, IsValue, HasFields, AreAlike}
+use Rattle.model_lists_laws.specs.LiveListLaws.{NewStobjsStand}
 
 module _ {S : Type 0} (names : S → S → Ordering) where
   -- ---- normal lists
@@ -140,7 +140,7 @@ module _ {S : Type 0} where
   values_resized (suc n) x End g h = (g, values_resized n x End g tt)
   values_resized (suc n) x (Item first rest) g h = (h.0, values_resized n x rest g h.1)
 
-  -- ---- new objects
+  -- ---- new stobjs
 
   all_repeated : (Is : StobjList S → Type 0) (n : ℕ) (x : StobjList S) → Is x → AllItems Is (repeated n x)
   all_repeated Is zero x h = tt
@@ -166,5 +166,5 @@ module _ {S : Type 0} where
   new_normal names NoField = refl
   new_normal names (Field first others) = rw (new_normal names first, new_normal names others) refl
 
-pub new_objects_stand : {S : Type 0} → NewObjectsStand S
-new_objects_stand = record { fields = new_fields; normal = new_normal }
+pub new_stobjs_stand : {S : Type 0} → NewStobjsStand S
+new_stobjs_stand = record { fields = new_fields; normal = new_normal }

@@ -7,7 +7,7 @@ use Rattle.model_symbols.specs.Growth.{AreDistinct}
 use Rattle.model_prims.specs.Kinds.{by_number}
 use Rattle.model_lists.specs.Lists.{StobjList, Pairs, pairs_of, value_at}
 use Rattle.model_lists.specs.Normal.{number_cmp, normal, canonical, list_cells, held_cells}
-use Rattle.model_lists.specs.Standing.{AreAlike, ListSymbols}
+use Rattle.model_lists.specs.LiveLists.{AreAlike, ListSymbols}
 
 -- each symbol in the list is known
 abbrev pub IsKnownList : List QualifiedName → StobjList ℕ → Type 0

@@ -50,7 +50,7 @@ HasInitials k (Children n child) = HasInitials k child
 HasInitials k NoField = Unit {0}
 HasInitials k (Field first others) = HasInitials k first × HasInitials k others
 
--- a new object meets its recognizer
+-- a new stobj meets its recognizer
 pub record IsRecognized : Type 0 where
   pub named : (l : Layout QualifiedName) → HasInitials by_name l → recognizes by_name l (as_object by_name (initial l)) ≡ true
   pub numbered : (l : Layout ℕ) → HasInitials by_number l → recognizes by_number l (as_object by_number (initial l)) ≡ true

@@ -1,4 +1,4 @@
 pub mod Laws
-pub mod Standing
+pub mod LiveListLaws
 pub mod Canonical
 pub mod Kinds

@@ -5,7 +5,7 @@ ghost use Rattle.model_lists_laws.specs.Laws.{IsLogical, IsListed, IsNormal, IsR
 ghost use Rattle.std.specs.Prelude.{ℕ};
 ghost use Rattle.std.specs.Ordering.{nat_cmp};
 ghost use Rattle.model_lists.specs.Normal.{name_cmp};
-ghost use Rattle.model_lists_laws.specs.Standing.{NewObjectsStand, Orders, ListsAreReadAlike, WritesKeepFields};
+ghost use Rattle.model_lists_laws.specs.LiveListLaws.{NewStobjsStand, Orders, ListsAreReadAlike, WritesKeepFields};
 ghost use Rattle.model_lists_laws.specs.Canonical.{CanonicalLists};
 ghost use Rattle.model_lists_laws.specs.Kinds.{KindsAreOfTypes, KindRows};
 ghost use Rattle.model_symbols.specs.Symbols.{QualifiedName};
@@ -25,9 +25,9 @@ pub fn shapes_print_lists()
     ensures named { IsListed by_name }
 {}
 
-/// A new object meets its recognizer.
+/// A new stobj meets its recognizer.
 #[tactic(auto, using(crate::proofs::LogicalLemmas::is_recognized))]
-pub fn new_objects_are_recognized()
+pub fn new_stobjs_are_recognized()
     ensures { IsRecognized }
 {}
 
@@ -43,14 +43,14 @@ pub fn normal_lists_are_normal()
     ensures { IsNormal }
 {}
 
-/// A new object has the fields of its layout, and stands for its own list.
-#[tactic(auto, using(crate::proofs::StandingLemmas::new_objects_stand))]
-pub fn new_objects_stand_for_their_lists()
-    ensures numbered { NewObjectsStand ℕ }
-    ensures named { NewObjectsStand QualifiedName }
+/// A new stobj has the fields of its layout, and stands for its own list.
+#[tactic(auto, using(crate::proofs::StandingLemmas::new_stobjs_stand))]
+pub fn new_stobjs_stand_for_their_lists()
+    ensures numbered { NewStobjsStand ℕ }
+    ensures named { NewStobjsStand QualifiedName }
 {}
 
-/// The numbers of symbols order objects, and so do their names: objects are the same where they compare as equal.
+/// The numbers of symbols order stobjs, and so do their names: stobjs are the same where they compare as equal.
 #[tactic(auto, using(crate::proofs::AlikeLemmas::names_ordered, crate::proofs::AlikeLemmas::numbers_ordered))]
 pub fn symbols_order_objects()
     ensures named { Orders by_name name_cmp }

@@ -1,5 +1,5 @@
 -- The logic value of a form: no guard, no bound on integers, weight or symbols, and a budget of calls. Symbols are named, and
--- objects are lists in the variables.
+-- stobjs are lists in the variables (ACL2's manual, topic LOGIC).
 use Rattle.std.specs.Prelude.{◌≡◌, ℕ, zero, suc, ◌+◌, List, [], ◌∷◌, ◌++◌, length, Option, Some, None, nat_le, nat_eq, if◌then◌else◌}
 use Rattle.std.specs.List.{list_any}
 use Rattle.model_objects.specs.Object.{Object}
@@ -9,9 +9,9 @@ use Rattle.model_prims.specs.Lists.{element}
 use Rattle.model_prims.specs.Applied.{value_of}
 use Rattle.model_terms.specs.Cores.{Core, Cores, Reached, Var, Const, If, Let, Mv, MvLet, StobjLet, WithLocal, MustBeEqual, Call, none, more, reached}
 use Rattle.model_terms.specs.Worlds.{World, Definition, definition, Primitive, Defined, Macro, Constant, Concrete, Generated, Abstract, OfAbstract, Named, Signed}
-use Rattle.model_eval.specs.Worlds.{stobj_layout}
-use Rattle.model_eval.specs.Children.{Loan, field_of}
-use Rattle.model_logic.specs.LogicFunctions.{as_list, logic_generated, child_object, with_child_object}
+use Rattle.model_eval.specs.StobjLayouts.{stobj_layout}
+use Rattle.model_eval.specs.Lending.{Loan, field_number}
+use Rattle.model_logic.specs.LogicFunctions.{as_list, logic_generated, child_stobj, with_child_stobj}
 
 -- a world, the packages, and the symbols that the world's constants and types are written with
 pub record Theory : Type 0 where
@@ -51,21 +51,21 @@ bind (x ∷ xs) (o ∷ os) values = (x, o) ∷ bind xs os values
 
 -- the same, without the variable of this name
 abbrev pub bind_others : ℕ → List ℕ → List Thing → Values → Values
-bind_others object [] os values = values
-bind_others object (x ∷ xs) [] values = values
-bind_others object (x ∷ xs) (o ∷ os) values =
-    if nat_eq x object then bind_others object xs os values else (x, o) ∷ bind_others object xs os values
+bind_others stobj [] os values = values
+bind_others stobj (x ∷ xs) [] values = values
+bind_others stobj (x ∷ xs) (o ∷ os) values =
+    if nat_eq x stobj then bind_others stobj xs os values else (x, o) ∷ bind_others stobj xs os values
 
 -- so many parts of a value that is a list of several
-abbrev pub elements : List ℕ → ℕ → Thing → List Thing
-elements [] n value = []
-elements (x ∷ xs) n value = element by_name n value ∷ elements xs (n + 1) value
+abbrev pub element_values : List ℕ → ℕ → Thing → List Thing
+element_values [] n value = []
+element_values (x ∷ xs) n value = element by_name n value ∷ element_values xs (n + 1) value
 
 -- the values of these variables: one is the value itself, several are its parts
 abbrev pub parts_for : List ℕ → Thing → List Thing
 parts_for [] value = []
 parts_for (x ∷ []) value = value ∷ []
-parts_for (x ∷ (y ∷ ys)) value = elements (x ∷ (y ∷ ys)) 0 value
+parts_for (x ∷ (y ∷ ys)) value = element_values (x ∷ (y ∷ ys)) 0 value
 
 -- what calls a function: its name, its arguments and the calls so far
 abbrev pub Caller : Type 0
@@ -75,7 +75,7 @@ Caller = ℕ → List Thing → ℕ → Option Found
 abbrev pub spending : ℕ → ℕ → ℕ → (ℕ → Option Found) → Option Found
 spending budget n calls go = if nat_le (calls + n) budget then go (calls + n) else None
 
--- the function that makes a new object
+-- the function that makes a new stobj
 abbrev pub creator_of : Option Definition → ℕ
 creator_of None = 0
 creator_of (Some (Primitive name row)) = 0
@@ -94,7 +94,7 @@ creator_of (Some (Signed name formals signature executable)) = 0
 -- the children as variables
 abbrev pub with_children : List (Loan QualifiedName) → Values → Values
 with_children [] values = values
-with_children (l ∷ ls) values = (l.child, child_object by_name l.field l.index (value_in values l.parent)) ∷ with_children ls values
+with_children (l ∷ ls) values = (l.child, child_stobj by_name l.field l.index (value_in values l.parent)) ∷ with_children ls values
 
 -- the children that are to be put back
 abbrev pub put_loans : List ℕ → List (Loan QualifiedName) → List (Loan QualifiedName)
@@ -105,7 +105,7 @@ put_loans vars (l ∷ ls) = if list_any (nat_eq l.child) vars then l ∷ put_loa
 abbrev pub with_parent : List (Loan QualifiedName) → Values → Values → Values
 with_parent [] vars values = values
 with_parent (l ∷ ls) vars values =
-    with_parent ls vars ((l.parent, with_child_object by_name l.field l.index (value_in vars l.child) (value_in values l.parent)) ∷ values)
+    with_parent ls vars ((l.parent, with_child_stobj by_name l.field l.index (value_in vars l.child) (value_in values l.parent)) ∷ values)
 
 module _ (b : Theory) where
   abbrev pub seen : Object ℕ → Thing
@@ -119,7 +119,7 @@ module _ (b : Theory) where
   leaf_value (Mv parts) values = nil_of by_name
   leaf_value (MvLet names bound body) values = nil_of by_name
   leaf_value (StobjLet names bound vars producer consumer) values = nil_of by_name
-  leaf_value (WithLocal object names producer body) values = nil_of by_name
+  leaf_value (WithLocal stobj names producer body) values = nil_of by_name
   leaf_value (MustBeEqual logic exec) values = nil_of by_name
   leaf_value (Call f actuals) values = nil_of by_name
 
@@ -131,7 +131,7 @@ module _ (b : Theory) where
   logic_loan child by values = record {
     child = child;
     parent = by.parent;
-    field = field_of (definition b.world by.accessor);
+    field = field_number (definition b.world by.accessor);
     index = index_value by.index values;
   }
 
@@ -157,7 +157,7 @@ module _ (b : Theory) (budget : ℕ) where
         form_values call forms values [] (λ os calls. form_value call body (bind names os values) calls) calls
     form_value call (Mv parts) values calls = form_values call parts values [] (λ os calls. found (as_list by_name os) calls) calls
     form_value call (MvLet names form body) values calls =
-        then_found (form_value call form values calls) (λ v calls. form_value call body (bind names (elements names 0 v) values) calls)
+        then_found (form_value call form values calls) (λ v calls. form_value call body (bind names (element_values names 0 v) values) calls)
     form_value call (StobjLet names forms vars producer consumer) values calls =
         let loans = logic_loans b names forms values in
         let put = put_loans vars loans in
@@ -166,10 +166,10 @@ module _ (b : Theory) (budget : ℕ) where
         spending budget (length put) calls (λ calls.
         let bindings = bind vars (parts_for vars v) [] in
         form_value call consumer (bindings ++ with_parent put bindings values) calls)))
-    form_value call (WithLocal object names producer body) values calls =
-        then_found (call (creator_of (definition b.world object)) [] calls) (λ l calls.
-        then_found (form_value call producer ((object, l) ∷ values) calls) (λ v calls.
-        form_value call body (bind_others object names (elements names 0 v) values) calls))
+    form_value call (WithLocal stobj names producer body) values calls =
+        then_found (call (creator_of (definition b.world stobj)) [] calls) (λ l calls.
+        then_found (form_value call producer ((stobj, l) ∷ values) calls) (λ v calls.
+        form_value call body (bind_others stobj names (element_values names 0 v) values) calls))
     form_value call (MustBeEqual logic exec) values calls = form_value call logic values calls
     form_value call (Call f actuals) values calls = form_values call actuals values [] (call f) calls
 
@@ -180,7 +180,7 @@ module _ (b : Theory) (budget : ℕ) where
 
   -- ---- calls
 
-  -- a call by what the function is; `exported` is the value of a function of an abstract object
+  -- a call by what the function is; `exported` is the value of a function of an abstract stobj
   abbrev pub defined_value : Caller → (ℕ → List Thing → ℕ → Option Found) → Option Definition → List Thing → ℕ → Option Found
   defined_value call exported None args calls = None
   defined_value call exported (Some (Primitive name row)) args calls = found (value_of b.packages row.prim args) calls
@@ -189,13 +189,13 @@ module _ (b : Theory) (budget : ℕ) where
   defined_value call exported (Some (Constant name value)) args calls = None
   defined_value call exported (Some (Concrete d class)) args calls = None
   defined_value call exported (Some (Generated g)) args calls =
-      found (logic_generated by_name g (stobj_layout (seen b) b.world g.object) args) calls
+      found (logic_generated by_name g (stobj_layout (seen b) b.world g.stobj) args) calls
   defined_value call exported (Some (Abstract d)) args calls = None
   defined_value call exported (Some (OfAbstract f)) args calls = exported f.logic args calls
   defined_value call exported (Some (Named name formals)) args calls = None
   defined_value call exported (Some (Signed name formals signature executable)) args calls = None
 
-  -- the logic function of a function of an abstract object, which is none itself
+  -- the logic function of a function of an abstract stobj, which is none itself
   abbrev pub logic_of_abstract : Caller → ℕ → List Thing → ℕ → Option Found
   logic_of_abstract call name args calls = defined_value call (λ logic os n. None) (definition b.world name) args calls
 

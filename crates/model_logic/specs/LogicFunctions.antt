@@ -1,4 +1,4 @@
--- The functions of a concrete object in the logic, called on any objects.
+-- The functions of a concrete object in the logic, called on any objects (ACL2's manual, topic DEFSTOBJ).
 use Rattle.std.specs.Prelude.{ℕ, List, [], ◌∷◌, Option, Some, None, unwrap_or}
 use Rattle.model_objects.specs.Object.{Object, list_onto}
 use Rattle.model_prims.specs.Kinds.{SymbolKind, nil_of, truth_of}
@@ -41,7 +41,7 @@ module _ {S : Type 0} (k : SymbolKind S) where
   filling NoField = nil_of k
   filling (Field first others) = nil_of k
 
-  -- the value of a function; the layout is that of the object, and the field's number is 0 where there is none
+  -- the value of a function; the layout is that of the stobj, and the field's number is 0 where there is none
   unfoldable pub logic_effect : Role → Layout S → ℕ → List (Object S) → Object S
   logic_effect role.Recognizer layout f args = truth_of k (recognizes k layout (argument k args 0))
   logic_effect role.Creator layout f args = as_object k (initial layout)
@@ -63,10 +63,10 @@ module _ {S : Type 0} (k : SymbolKind S) where
   logic_generated g layout args = logic_effect g.role layout (unwrap_or g.field 0) args
 
   -- a child as an ordinary object: of a field, or with an index of an array
-  abbrev pub child_object : ℕ → Option (Object S) → Object S → Object S
-  child_object f None parent = field_of k f parent
-  child_object f (Some i) parent = array_element k f i parent
+  abbrev pub child_stobj : ℕ → Option (Object S) → Object S → Object S
+  child_stobj f None parent = field_of k f parent
+  child_stobj f (Some i) parent = array_element k f i parent
 
-  abbrev pub with_child_object : ℕ → Option (Object S) → Object S → Object S → Object S
-  with_child_object f None child parent = with_field k f child parent
-  with_child_object f (Some i) child parent = with_element k f i child parent
+  abbrev pub with_child_stobj : ℕ → Option (Object S) → Object S → Object S → Object S
+  with_child_stobj f None child parent = with_field k f child parent
+  with_child_stobj f (Some i) child parent = with_element k f i child parent

@@ -4,7 +4,7 @@ use Rattle.std.specs.Prelude.{if◌then◌else◌}
 use Rattle.model_terms.specs.Cores.{Core}
 use Rattle.model_eval.specs.Outcomes.{Shown, StateOf, OutcomeOf, Gives, Stops, Unknown, then_with, with_state, cut_at}
 use Rattle.model_eval.specs.Keeping.{Loan, Keeping, leaving, handed, put_all, ending_loans, taken_back, unmaking}
-use Rattle.model_eval.specs.Scopes.{Variables, bound, single}
+use Rattle.model_eval.specs.Variables.{Variables, bound, single}
 use Rattle.model_eval.specs.Evaluated.{RulesOf, EvaluatorOf, is_false, evaluated}
 use Rattle.model_machine.specs.Frames.{Export, Step, Test, Parts, Several, Calling, Guarding, Running, Allowing, Exporting, Borrowing, Producing, Putting, Local, Last, Frame, Control, Begin, Give, Stopped, Machine, Going}
 use Rattle.model_machine.specs.Turns.{out_of, abandoned, ended_state, closed_state}

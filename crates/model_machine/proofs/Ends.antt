@@ -7,10 +7,10 @@ use Rattle.model_terms.specs.Cores.{Core, Cores, Reached, Var, Const, If, Let, M
 use Rattle.model_terms.specs.Worlds.{Definition, FunctionOfAbstract, definition, Primitive, Defined, Macro, Constant, Concrete, Generated, Abstract, OfAbstract, Named, Signed}
 use Rattle.model_terms.specs.declared.role.AbstractRole.{AbstractRole}
 use Rattle.model_terms.specs.declared.role.AbstractRole.TheVariants as abstract_role
-use Rattle.model_eval.specs.Outcomes.{Shown, Plain, Stobj, Stop, Steps, Depth, Origin, StateOf, OutcomeOf, Gives, Stops, Unknown, here, one_more_call}
+use Rattle.model_eval.specs.Outcomes.{Shown, Plain, StobjNamed, Stop, Steps, Depth, Origin, StateOf, OutcomeOf, Gives, Stops, Unknown, here, one_more_call}
 use Rattle.model_eval.specs.Keeping.{Loan, Keeping, beginning}
-use Rattle.model_eval.specs.Scopes.{Variables, variable_in, single}
-use Rattle.model_eval.specs.Children.{is_reached, are_twins}
+use Rattle.model_eval.specs.Variables.{Variables, variable_in, single}
+use Rattle.model_eval.specs.Lending.{is_reached, are_twins}
 use Rattle.model_eval.specs.Evaluated.{RulesOf, is_false, leaf, loan_of, evaluated}
 use Rattle.model_machine.specs.Frames.{Begun, Export, Then, ThenBody, ThenValues, ThenCall, Step, Test, Parts, Several, Calling, Guarding, Running, Allowing, Exporting, Borrowing, Producing, Putting, Local, Last, Frame, Control, Begin, Give, Stopped, Machine, Turned, Going, Over}
 use Rattle.model_machine.specs.Turns.{going, last_form, stop_here, done, call_of_abstract, call_by_definition, call, call_exec, parts_done, next_part, reach_from, borrow, lend_all, next_child, put_next, make_local, open_form, open_in, begin, go_on, turn_by, turn_of}
@@ -154,7 +154,7 @@ module _ {S O B : Type 0} {keeping : Keeping S O B} (r : RulesOf keeping) where
 
     reach_ends : (step : Loan S → Step S B) (child : ℕ) (by : Reached) (p : Shown S) (state : StateOf O) → ((loan : Loan S) → FramesEnd room (with_step (step loan))) → Ends (reach_from r room variables frames step child by p state)
     reach_ends step child by (Plain o) state h = stop_ends None Depth state
-    reach_ends step child by (Stobj p) state h =
+    reach_ends step child by (StobjNamed p) state h =
         let loan = loan_of r child p by variables in
         ends_if (nat_lt state.calls r.limit) _ _
         (ends_if (is_reached loan.index (item loan.field (keeping.read state.stobjs loan.parent))) _ _ ((h loan).gives [] _) (stop_ends None _ _))
@@ -205,8 +205,8 @@ module _ {S O B : Type 0} {keeping : Keeping S O B} (r : RulesOf keeping) where
     open_ends (MvLet names form body) state = forms_end form variables _ state (framed (Several names body) (λ values after. last_form_ends body _ after))
     open_ends (StobjLet names forms vars producer consumer) state =
         (framed (Borrowing names forms [] vars producer consumer) (λ values after. child_ends names forms [] vars producer consumer after)).gives [] state
-    open_ends (WithLocal object names producer body) state =
-        ends_if (nat_lt state.calls r.limit) _ _ (make_ends object (r.fresh object) names producer body (one_more_call state)) (stop_ends None Steps state)
+    open_ends (WithLocal stobj names producer body) state =
+        ends_if (nat_lt state.calls r.limit) _ _ (make_ends stobj (r.fresh stobj) names producer body (one_more_call state)) (stop_ends None Steps state)
     open_ends (MustBeEqual logic exec) state = last_form_ends logic variables state
     open_ends (Call f actuals) state = part_ends actuals [] (ThenCall f) state
 

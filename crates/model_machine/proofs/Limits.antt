@@ -4,16 +4,16 @@ use Rattle.std.specs.Prelude.{nat_lt, nat_eq, if◌then◌else◌}
 use Rattle.std.specs.List.{list_any}
 use Rattle.std.proofs.lemmas.Bool.Decides.{nat_tests}
 use Rattle.model_lists.specs.Lists.{StobjList, item}
-use Rattle.model_lists.specs.Generated.{Effect, Refuses, Reads, Writes}
+use Rattle.model_lists.specs.Effects.{Effect, Refuses, Reads, Writes}
 use Rattle.model_terms.specs.Cores.{Core, Cores, Reached, Var, Const, If, Let, Mv, MvLet, StobjLet, WithLocal, MustBeEqual, Call, none, more, reached}
 use Rattle.model_terms.specs.Worlds.{Definition, FunctionOfAbstract, definition, Primitive, Defined, Macro, Constant, Concrete, Generated, Abstract, OfAbstract, Named, Signed}
 use Rattle.model_terms.specs.declared.role.AbstractRole.{AbstractRole}
 use Rattle.model_terms.specs.declared.role.AbstractRole.TheVariants as abstract_role
-use Rattle.model_eval.specs.Outcomes.{Shown, Plain, Stobj, StateOf, OutcomeOf, Gives, Stops, Unknown, one_more_call}
+use Rattle.model_eval.specs.Outcomes.{Shown, Plain, StobjNamed, StateOf, OutcomeOf, Gives, Stops, Unknown, one_more_call}
 use Rattle.model_eval.specs.Keeping.{Loan, Keeping, beginning}
-use Rattle.model_eval.specs.Scopes.{Variables, variable_in}
-use Rattle.model_eval.specs.Children.{is_reached, are_twins}
-use Rattle.model_eval.specs.Generated.{effected}
+use Rattle.model_eval.specs.Variables.{Variables, variable_in}
+use Rattle.model_eval.specs.Lending.{is_reached, are_twins}
+use Rattle.model_eval.specs.GeneratedCalls.{effected}
 use Rattle.model_eval.specs.Evaluated.{RulesOf, is_false, leaf, loan_of}
 use Rattle.model_machine.specs.Frames.{Begun, Export, Then, ThenBody, ThenValues, ThenCall, Step, Test, Parts, Several, Calling, Guarding, Running, Allowing, Exporting, Borrowing, Producing, Putting, Local, Last, Frame, Control, Begin, Give, Stopped, Machine, Turned, Going, Over}
 use Rattle.model_machine.specs.Turns.{out_of, abandoned, done, call_of_abstract, call_by_definition, call, call_exec, parts_done, next_part, reach_from, borrow, lend_all, next_child, put_next, make_local, open_form, begin, go_on, closed_state, turn_by, turn_of}
@@ -138,7 +138,7 @@ module _ {S O B : Type 0} {keeping : Keeping S O B} (r : RulesOf keeping) (count
   fits_reach_from : (room : ℕ) (variables : Variables S) (frames : List (Frame S B)) (step : Loan S → Step S B) (child : ℕ) (by : Reached) (p : Shown S) (s : StateOf O)
       → Fits 1 s.calls (reach_from r room variables frames step child by p s) (reach_from q room variables frames step child by p s)
   fits_reach_from room variables frames step child by (Plain o) s = fits_same _
-  fits_reach_from room variables frames step child by (Stobj p) s =
+  fits_reach_from room variables frames step child by (StobjNamed p) s =
       let loan = loan_of r child p by variables in
       fits_tested s.calls _ _ _ _ (fits_if (is_reached loan.index (item loan.field (keeping.read s.stobjs loan.parent))) (s.calls + 1) _ _ _ _ (fits_same _) (fits_same _)) (fits_same _)
 
@@ -179,8 +179,8 @@ module _ {S O B : Type 0} {keeping : Keeping S O B} (r : RulesOf keeping) (count
   fits_form room variables frames (Mv parts) s = fits_part room variables frames parts [] ThenValues s
   fits_form room variables frames (MvLet names form body) s = fits_same _
   fits_form room variables frames (StobjLet names forms vars producer consumer) s = fits_same _
-  fits_form room variables frames (WithLocal object names producer body) s =
-      fits_tested s.calls _ _ _ _ (fits_local room variables frames object (r.fresh object) names producer body (one_more_call s)) (fits_same _)
+  fits_form room variables frames (WithLocal stobj names producer body) s =
+      fits_tested s.calls _ _ _ _ (fits_local room variables frames stobj (r.fresh stobj) names producer body (one_more_call s)) (fits_same _)
   fits_form room variables frames (MustBeEqual logic exec) s = fits_same _
   fits_form room variables frames (Call f actuals) s = fits_part room variables frames actuals [] (ThenCall f) s
 

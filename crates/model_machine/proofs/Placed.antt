@@ -1,4 +1,4 @@
--- The machine with objects in place.
+-- The machine with stobjs in place.
 use Rattle.std.proofs.Common.{subst}
 use Rattle.model_eval.specs.PlacesKeeping.{places_keeping}
 use Rattle.model_eval.specs.Checked.{checked_rules}

@@ -7,10 +7,10 @@ use Rattle.model_symbols.specs.Symbols.{QualifiedName}
 use Rattle.model_lists.specs.Lists.{StobjList}
 use Rattle.model_terms.specs.Cores.{Core, Cores, Reached, Var, Const, If, Let, Mv, MvLet, StobjLet, WithLocal, MustBeEqual, Call, none, more, reached}
 use Rattle.model_terms.specs.Worlds.{FunctionOfAbstract}
-use Rattle.model_eval.specs.Outcomes.{Shown, Plain, Stobj, StateOf}
+use Rattle.model_eval.specs.Outcomes.{Shown, Plain, StobjNamed, StateOf}
 use Rattle.model_eval.specs.Keeping.{Loan, put_all}
-use Rattle.model_eval.specs.Scopes.{Variables, variable_in}
-use Rattle.model_eval.specs.Children.{are_twins}
+use Rattle.model_eval.specs.Variables.{Variables, variable_in}
+use Rattle.model_eval.specs.Lending.{are_twins}
 use Rattle.model_eval.specs.PlacesKeeping.{Places, Store, places_keeping}
 use Rattle.model_eval.specs.Evaluated.{RulesOf, is_false, leaf}
 use Rattle.model_machine.specs.Frames.{Begun, Export, Then, ThenBody, ThenValues, ThenCall, Step, Test, Parts, Several, Calling, Guarding, Running, Allowing, Exporting, Borrowing, Producing, Putting, Local, Last, Frame, Control, Begin, Give, Stopped, Machine, Turned, Going, Over}
@@ -67,7 +67,7 @@ module _ {S : Type 0} (r : RulesOf (places_keeping {S = S})) (l : ℕ) where
   quiet_reach_from : (room : ℕ) (variables : Variables S) (frames : List (Frame S Places)) (step : Loan S → Step S Places) (child : ℕ) (by : Reached) (p : Shown S) (s : StateOf (Store S)) → l ≤ s.calls
       → At s (reach_from q room variables frames step child by p s)
   quiet_reach_from room variables frames step child by (Plain o) s h = quiet _
-  quiet_reach_from room variables frames step child by (Stobj p) s h = quiet_tested s _ _ h (quiet _)
+  quiet_reach_from room variables frames step child by (StobjNamed p) s h = quiet_tested s _ _ h (quiet _)
 
   quiet_borrow : (room : ℕ) (variables : Variables S) (frames : List (Frame S Places)) (step : Loan S → Step S Places) (child : ℕ) (by : Option Reached) (s : StateOf (Store S)) → l ≤ s.calls
       → At s (borrow q room variables frames step child by s)
@@ -98,7 +98,7 @@ module _ {S : Type 0} (r : RulesOf (places_keeping {S = S})) (l : ℕ) where
   quiet_form room variables frames (Mv parts) s h = quiet_part room variables frames parts [] ThenValues s
   quiet_form room variables frames (MvLet names form body) s h = quiet _
   quiet_form room variables frames (StobjLet names forms vars producer consumer) s h = quiet _
-  quiet_form room variables frames (WithLocal object names producer body) s h = quiet_tested s _ _ h (quiet _)
+  quiet_form room variables frames (WithLocal stobj names producer body) s h = quiet_tested s _ _ h (quiet _)
   quiet_form room variables frames (MustBeEqual logic exec) s h = quiet _
   quiet_form room variables frames (Call f actuals) s h = quiet_part room variables frames actuals [] (ThenCall f) s
 

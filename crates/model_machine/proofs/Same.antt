@@ -7,10 +7,10 @@ use Rattle.model_terms.specs.Cores.{Core, Cores, Reached, Var, Const, If, Let, M
 use Rattle.model_terms.specs.Worlds.{Definition, FunctionOfAbstract, definition, Primitive, Defined, Macro, Constant, Concrete, Generated, Abstract, OfAbstract, Named, Signed}
 use Rattle.model_terms.specs.declared.role.AbstractRole.{AbstractRole}
 use Rattle.model_terms.specs.declared.role.AbstractRole.TheVariants as abstract_role
-use Rattle.model_eval.specs.Outcomes.{Shown, Plain, Stobj, Stop, Steps, Depth, Origin, StateOf, OutcomeOf, Gives, Stops, Unknown, then_with, here, cut_before, cut_at, one_more_call, counting}
+use Rattle.model_eval.specs.Outcomes.{Shown, Plain, StobjNamed, Stop, Steps, Depth, Origin, StateOf, OutcomeOf, Gives, Stops, Unknown, then_with, here, cut_before, cut_at, one_more_call, counting}
 use Rattle.model_eval.specs.Keeping.{Loan, Keeping, outer_value, taken_back, beginning}
-use Rattle.model_eval.specs.Scopes.{Variables, variable_in, bound}
-use Rattle.model_eval.specs.Children.{is_reached, are_twins}
+use Rattle.model_eval.specs.Variables.{Variables, variable_in, bound}
+use Rattle.model_eval.specs.Lending.{is_reached, are_twins}
 use Rattle.model_eval.specs.Evaluated.{RulesOf, EvaluatorOf, is_false, of_abstract, by_definition, exec_called, called, in_order, leaf, loan_of, borrowing, borrowed_from, borrowed, all_borrowed, put_back, with_loans, with_fresh, opened, evaluated}
 use Rattle.model_eval.specs.Checked.{checked_export}
 use Rattle.model_machine.specs.Frames.{Begun, Export, Then, ThenBody, ThenValues, ThenCall, Step, Test, Parts, Several, Calling, Guarding, Running, Allowing, Exporting, Borrowing, Producing, Putting, Local, Last, Frame, Control, Begin, Give, Stopped, Machine, Turned, Going}
@@ -177,7 +177,7 @@ module _ {S O B : Type 0} {keeping : Keeping S O B} (r : RulesOf keeping) where
       → ((loan : Loan S) (after : StateOf O) → rest_of q (inner room) variables (step loan) (Gives [] after) ≡ to loan after)
       → Makes room frames (reach_from r room variables frames step child by p state) (borrowed_from q child by p variables to state)
   makes_reach_from room variables frames step child by (Plain o) to state h = makes_stop room variables frames Depth state
-  makes_reach_from room variables frames step child by (Stobj p) to state h =
+  makes_reach_from room variables frames step child by (StobjNamed p) to state h =
       makes_reach room variables frames (step (loan_of r child p by variables)) by.accessor (loan_of r child p by variables) (to (loan_of r child p by variables)) state (h (loan_of r child p by variables))
 
   makes_borrow : (room : ℕ) (variables : Variables S) (frames : List (Frame S B)) (step : Loan S → Step S B) (child : ℕ) (by : Option Reached) (to : Loan S → StateOf O → OutcomeOf S O) (state : StateOf O)
@@ -241,9 +241,9 @@ module _ {S O B : Type 0} {keeping : Keeping S O B} (r : RulesOf keeping) where
   makes_form room variables frames (Mv parts) state = makes_part room variables frames parts [] ThenValues state
   makes_form room variables frames (MvLet names form body) state = refl
   makes_form room variables frames (StobjLet names forms vars producer consumer) state = refl
-  makes_form room variables frames (WithLocal object names producer body) state =
+  makes_form room variables frames (WithLocal stobj names producer body) state =
       makes_then_if (nat_lt state.calls r.limit) room frames _ _ _ _ (λ values after. inner room body (bound names values variables) after)
-      (makes_local room variables frames object (r.fresh object) names producer body (one_more_call state))
+      (makes_local room variables frames stobj (r.fresh stobj) names producer body (one_more_call state))
       (makes_stop room variables frames Steps state)
   makes_form room variables frames (MustBeEqual logic exec) state = refl
   makes_form room variables frames (Call f actuals) state = makes_part room variables frames actuals [] (ThenCall f) state
@@ -261,7 +261,7 @@ module _ {S O B : Type 0} {keeping : Keeping S O B} (r : RulesOf keeping) where
   is_false_outer : (formals : List ℕ) (actuals values : List (Shown S)) → is_false q (map (outer_value formals actuals) values) ≡ is_false r values
   is_false_outer formals actuals [] = refl
   is_false_outer formals actuals (Plain o ∷ vs) = refl
-  is_false_outer formals actuals (Stobj x ∷ vs) = refl
+  is_false_outer formals actuals (StobjNamed x ∷ vs) = refl
 
   makes_within_if : (b c : Bool) (export : Option (Export S B)) (room : ℕ) (frames : List (Frame S B)) (t u : Turned S O B) (x y : OutcomeOf S O) → c ≡ b
       → Makes room frames t (within keeping export x) → Makes room frames u (within keeping export y) → Makes room frames (if b then t else u) (within keeping export (if c then x else y))

@@ -1,4 +1,4 @@
--- Objects in place are steady, and the rules of checked evaluation count no calls in primitives.
+-- Stobjs in place are steady, and the rules of checked evaluation count no calls in primitives.
 use Rattle.std.proofs.Common.{◌≡◌, ℕ, zero, suc, List, [], ◌∷◌, ◌++◌, drop, length, refl, sym, ap, arith}
 use Rattle.model_symbols.specs.Symbols.{Package}
 use Rattle.model_prims.specs.Applied.{Applied}
@@ -9,7 +9,7 @@ use Rattle.model_eval.specs.Outcomes.{Shown, StateOf}
 use Rattle.model_eval.specs.Keeping.{Loan, Keeping}
 use Rattle.model_eval.specs.PlacesKeeping.{Journal, Closed, Open, Store, Places, lent_places, opened_journal, closed_journal, roots_restored, places_keeping}
 use Rattle.model_eval.specs.Checked.{primitive_ended, checked_keeping}
-use Rattle.model_machine.specs.Cutting.{IsSteady, NestsExports, HasCalls, PrimitivesCountNone, HasObjects, PrimitivesWriteNone, IsCutNow}
+use Rattle.model_machine.specs.Cutting.{IsSteady, NestsExports, HasCalls, PrimitivesCountNone, HasStobjs, PrimitivesWriteNone, IsCutNow}
 use Rattle.model_machine.proofs.Closing.{is_cut_now}
 
 dropped : {S : Type 0} (loans : List (Loan S)) (scope others : Places) → drop (length loans) (lent_places loans scope ++ others) ≡ others
@@ -78,7 +78,7 @@ ended_calls f values state (prims.Stops prims.Symbols) = refl
 pub checked_primitives : {O B : Type 0} (keeping : Keeping ℕ O B) (w : World) (packages : List Package) (limit : ℕ) → PrimitivesCountNone (checked_keeping keeping w packages limit)
 checked_primitives keeping w packages limit = record { same = λ f p values state. ended_calls f values state _ }
 
-ended_objects : {O : Type 0} (f : ℕ) (values : List (Shown ℕ)) (state : StateOf O) (a : Applied) → HasObjects state.stobjs (primitive_ended f values state a)
+ended_objects : {O : Type 0} (f : ℕ) (values : List (Shown ℕ)) (state : StateOf O) (a : Applied) → HasStobjs state.stobjs (primitive_ended f values state a)
 ended_objects f values state (prims.Gives o symbols) = refl
 ended_objects f values state (prims.Stops prims.Guard) = refl
 ended_objects f values state (prims.Stops prims.Range) = refl

@@ -4,10 +4,10 @@ use Rattle.std.specs.Prelude.{nat_lt, nat_eq, if◌then◌else◌}
 use Rattle.std.specs.List.{list_any}
 use Rattle.std.proofs.lemmas.Bool.Decides.{nat_tests}
 use Rattle.model_terms.specs.Cores.{Core, Cores, Reached, Var, Const, If, Let, Mv, MvLet, StobjLet, WithLocal, MustBeEqual, Call, none, more, reached}
-use Rattle.model_eval.specs.Outcomes.{Shown, Plain, Stobj, StateOf, OutcomeOf, Gives, Stops, Unknown, then_with, counting}
+use Rattle.model_eval.specs.Outcomes.{Shown, Plain, StobjNamed, StateOf, OutcomeOf, Gives, Stops, Unknown, then_with, counting}
 use Rattle.model_eval.specs.Keeping.{Loan, Keeping, entering, leaving, handed, put_all, ending_loans, taken_back}
-use Rattle.model_eval.specs.Scopes.{Variables, variable_in, bound, single, inner_variables}
-use Rattle.model_eval.specs.Children.{are_twins}
+use Rattle.model_eval.specs.Variables.{Variables, variable_in, bound, single, inner_variables}
+use Rattle.model_eval.specs.Lending.{are_twins}
 use Rattle.model_eval.specs.Evaluated.{RulesOf, EvaluatorOf, is_false, scoped, called, in_order, leaf, leaf_or, lending, loaned_variables, borrowed_from, borrowed, all_borrowed, put_back, producing, with_loans, with_fresh, opened, evaluated}
 use Rattle.model_machine.specs.Frames.{Then, ThenBody, ThenValues, ThenCall}
 use Rattle.model_machine.specs.Stands.{running, after_parts}
@@ -16,7 +16,7 @@ use Rattle.model_machine.specs.Cutting.{IsSteady, with_limit}
 pub none_left : (c n : ℕ) → c ≤ n → nat_lt n c ≡ false
 none_left c n h = grind (arith, nat_tests)
 
--- a state with other objects, and with its own
+-- a state with other stobjs, and with its own
 same_objects : {O : Type 0} (state : StateOf O) (stobjs : O) → stobjs ≡ state.stobjs → record state { stobjs = stobjs } ≡ state
 same_objects state stobjs e = rw e refl
 
@@ -56,7 +56,7 @@ module _ {S O B : Type 0} {keeping : Keeping S O B} (steady : IsSteady keeping) 
 
   still_borrowed_from : (child : ℕ) (by : Reached) (p : Shown S) (variables : Variables S) (go : Loan S → StateOf O → OutcomeOf S O) (s : StateOf O) → c ≤ s.calls → RestsAt s (borrowed_from q child by p variables go s)
   still_borrowed_from child by (Plain o) variables go s h = (refl, refl)
-  still_borrowed_from child by (Stobj p) variables go s h = rw (none_left c s.calls h) (refl, refl)
+  still_borrowed_from child by (StobjNamed p) variables go s h = rw (none_left c s.calls h) (refl, refl)
 
   still_borrowed : (child : ℕ) (by : Option Reached) (variables : Variables S) (go : Loan S → StateOf O → OutcomeOf S O) (s : StateOf O) → c ≤ s.calls → RestsAt s (borrowed q child by variables go s)
   still_borrowed child None variables go s h = (refl, refl)
@@ -100,8 +100,8 @@ module _ {S O B : Type 0} {keeping : Keeping S O B} (steady : IsSteady keeping) 
   still_opened ev e (Mv parts) variables s h = still_in_order ev e parts variables [] Gives s h (λ values. refl)
   still_opened ev e (MvLet names form body) variables s h = still_then s _ _ (e form variables s h) (λ values. e body (bound names values variables) s h)
   still_opened ev e (StobjLet names forms vars producer consumer) variables s h = still_all_borrowed ev e names forms variables [] vars producer consumer s h
-  still_opened ev e (WithLocal object names producer body) variables s h =
-      still_then s (counting c s (with_fresh q ev object (r.fresh object) producer variables)) _ (rw (none_left c s.calls h) (refl, refl)) (λ values. e body (bound names values variables) s h)
+  still_opened ev e (WithLocal stobj names producer body) variables s h =
+      still_then s (counting c s (with_fresh q ev stobj (r.fresh stobj) producer variables)) _ (rw (none_left c s.calls h) (refl, refl)) (λ values. e body (bound names values variables) s h)
   still_opened ev e (MustBeEqual logic exec) variables s h = e logic variables s h
   still_opened ev e (Call f actuals) variables s h = still_in_order ev e actuals variables [] (called q ev f) s h (λ values. still_called ev f values s h)
 

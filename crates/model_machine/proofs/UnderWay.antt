@@ -3,20 +3,20 @@ use Rattle.std.proofs.Common.{◌≡◌, ℕ, zero, suc, List, [], ◌∷◌, �
 use Rattle.std.specs.Prelude.{nat_lt, nat_eq, if◌then◌else◌}
 use Rattle.std.specs.List.{list_any}
 use Rattle.model_lists.specs.Lists.{StobjList, item}
-use Rattle.model_lists.specs.Generated.{Effect, Refuses, Reads, Writes}
+use Rattle.model_lists.specs.Effects.{Effect, Refuses, Reads, Writes}
 use Rattle.model_terms.specs.Cores.{Core, Cores, Reached, Var, Const, If, Let, Mv, MvLet, StobjLet, WithLocal, MustBeEqual, Call, none, more, reached}
 use Rattle.model_terms.specs.Worlds.{Definition, FunctionOfAbstract, definition, Primitive, Defined, Macro, Constant, Concrete, Generated, Abstract, OfAbstract, Named, Signed}
 use Rattle.model_terms.specs.declared.role.AbstractRole.{AbstractRole}
 use Rattle.model_terms.specs.declared.role.AbstractRole.TheVariants as abstract_role
-use Rattle.model_eval.specs.Outcomes.{Shown, Plain, Stobj, StateOf, OutcomeOf, Gives, Stops, Unknown, one_more_call}
+use Rattle.model_eval.specs.Outcomes.{Shown, Plain, StobjNamed, StateOf, OutcomeOf, Gives, Stops, Unknown, one_more_call}
 use Rattle.model_eval.specs.Keeping.{Loan, Keeping, put_all, beginning}
-use Rattle.model_eval.specs.Scopes.{Variables, variable_in}
-use Rattle.model_eval.specs.Children.{is_reached, are_twins}
-use Rattle.model_eval.specs.Generated.{effected}
+use Rattle.model_eval.specs.Variables.{Variables, variable_in}
+use Rattle.model_eval.specs.Lending.{is_reached, are_twins}
+use Rattle.model_eval.specs.GeneratedCalls.{effected}
 use Rattle.model_eval.specs.Evaluated.{RulesOf, is_false, leaf, loan_of}
 use Rattle.model_machine.specs.Frames.{Begun, Export, Then, ThenBody, ThenValues, ThenCall, Step, Test, Parts, Several, Calling, Guarding, Running, Allowing, Exporting, Borrowing, Producing, Putting, Local, Last, Frame, Control, Begin, Give, Stopped, Machine, Turned, Going, Over}
 use Rattle.model_machine.specs.Turns.{out_of, abandoned, done, call_of_abstract, call_by_definition, call, call_exec, parts_done, next_part, reach_from, borrow, lend_all, next_child, put_next, make_local, open_form, begin, go_on, ended_state, closed_state, turn_by, turn_of}
-use Rattle.model_machine.specs.Cutting.{NestsExports, HasObjects, PrimitivesWriteNone, Leads}
+use Rattle.model_machine.specs.Cutting.{NestsExports, HasStobjs, PrimitivesWriteNone, Leads}
 
 -- the export whose exec function a frame runs
 abbrev pub export_in : {S B : Type 0} → Step S B → Option (Export S B)
@@ -116,7 +116,7 @@ module _ {S O B : Type 0} {keeping : Keeping S O B} (under_way : O → ℕ) (nes
 
     -- ---- calls
 
-    told_done : (export : Option (Export S B)) (room : ℕ) (variables : Variables S) (frames : List (Frame S B)) (stobjs : O) (outcome : OutcomeOf S O) → under_way stobjs ≡ above d (and_this export (exports_in frames)) → HasObjects stobjs outcome
+    told_done : (export : Option (Export S B)) (room : ℕ) (variables : Variables S) (frames : List (Frame S B)) (stobjs : O) (outcome : OutcomeOf S O) → under_way stobjs ≡ above d (and_this export (exports_in frames)) → HasStobjs stobjs outcome
         → Told (done r export room variables frames outcome)
     told_done export room variables frames stobjs (Gives values state) e h = told _ (ap under_way h ∙ e)
     told_done export room variables frames stobjs (Stops stop w state) e h = told _ (ap under_way h ∙ e)
@@ -178,7 +178,7 @@ module _ {S O B : Type 0} {keeping : Keeping S O B} (under_way : O → ℕ) (nes
     told_reach_from : (room : ℕ) (variables : Variables S) (frames : List (Frame S B)) (step : Loan S → Step S B) (child : ℕ) (by : Reached) (p : Shown S) (s : StateOf O) → under_way s.stobjs ≡ above d (exports_in frames)
         → ((loan : Loan S) → export_in (step loan) ≡ None) → Told (reach_from r room variables frames step child by p s)
     told_reach_from room variables frames step child by (Plain o) s e h = told _ e
-    told_reach_from room variables frames step child by (Stobj p) s e h =
+    told_reach_from room variables frames step child by (StobjNamed p) s e h =
         let loan = loan_of r child p by variables in
         told_if (nat_lt s.calls r.limit) _ _
         (told_if (is_reached loan.index (item loan.field (keeping.read s.stobjs loan.parent))) _ _ (told _ (rw (h loan) e)) (told _ e)) (told _ e)
@@ -220,8 +220,8 @@ module _ {S O B : Type 0} {keeping : Keeping S O B} (under_way : O → ℕ) (nes
     told_form room variables frames (Mv parts) s e = told_part room variables frames parts [] ThenValues s e
     told_form room variables frames (MvLet names form body) s e = told _ e
     told_form room variables frames (StobjLet names forms vars producer consumer) s e = told _ e
-    told_form room variables frames (WithLocal object names producer body) s e =
-        told_if (nat_lt s.calls r.limit) _ _ (told_local room variables frames object (r.fresh object) names producer body (one_more_call s) e) (told _ e)
+    told_form room variables frames (WithLocal stobj names producer body) s e =
+        told_if (nat_lt s.calls r.limit) _ _ (told_local room variables frames stobj (r.fresh stobj) names producer body (one_more_call s) e) (told _ e)
     told_form room variables frames (MustBeEqual logic exec) s e = told _ e
     told_form room variables frames (Call f actuals) s e = told_part room variables frames actuals [] (ThenCall f) s e
 

@@ -5,7 +5,7 @@ use Rattle.model_lists.specs.Lists.{StobjList}
 use Rattle.model_terms.specs.Cores.{Core}
 use Rattle.model_eval.specs.Outcomes.{Shown, StateOf, OutcomeOf, Gives, Stops, Unknown}
 use Rattle.model_eval.specs.Keeping.{Loan, Keeping}
-use Rattle.model_eval.specs.Scopes.{Variables}
+use Rattle.model_eval.specs.Variables.{Variables}
 use Rattle.model_eval.specs.Evaluated.{RulesOf, evaluated}
 use Rattle.model_machine.specs.Frames.{Frame, Machine, Turned, Going, Over}
 use Rattle.model_machine.specs.Turns.{ended_state, closed_state, turn_of}
@@ -18,8 +18,8 @@ pub record IsSteady {S O B : Type 0} (keeping : Keeping S O B) : Type 0 where
   pub lends : (loans : List (Loan S)) (stobjs : O) → keeping.end_loans (length loans) (keeping.lend loans stobjs) ≡ stobjs
   pub puts : (loan : Loan S) (stobjs : O) → keeping.put loan stobjs ≡ stobjs
 
--- the objects tell how many exports are under way, which only their beginnings and ends change; and inside another one an export
--- leaves the same, whether its writes stay or it is abandoned, since it is the outermost that brings the objects back
+-- the stobjs tell how many exports are under way, which only their beginnings and ends change; and inside another one an export
+-- leaves the same, whether its writes stay or it is abandoned, since it is the outermost that brings the stobjs back
 pub record NestsExports {S O B : Type 0} (keeping : Keeping S O B) (under_way : O → ℕ) : Type 0 where
   pub begins : (stobjs : O) → under_way (keeping.begin_export stobjs) ≡ suc (under_way stobjs)
   pub commits : (n : ℕ) (stobjs : O) → under_way stobjs ≡ suc n → under_way (keeping.commit stobjs) ≡ n
@@ -44,20 +44,20 @@ HasCalls calls (Gives values after) = after.calls ≡ calls
 HasCalls calls (Stops stop origin after) = after.calls ≡ calls
 HasCalls calls Unknown = Unit {0}
 
--- the objects are these
-abbrev pub HasObjects : {S O : Type 0} → O → OutcomeOf S O → Type 0
-HasObjects stobjs (Gives values after) = after.stobjs ≡ stobjs
-HasObjects stobjs (Stops stop origin after) = after.stobjs ≡ stobjs
-HasObjects stobjs Unknown = Unit {0}
+-- the stobjs are these
+abbrev pub HasStobjs : {S O : Type 0} → O → OutcomeOf S O → Type 0
+HasStobjs stobjs (Gives values after) = after.stobjs ≡ stobjs
+HasStobjs stobjs (Stops stop origin after) = after.stobjs ≡ stobjs
+HasStobjs stobjs Unknown = Unit {0}
 
 module _ {S O B : Type 0} {keeping : Keeping S O B} (r : RulesOf keeping) where
   -- primitives count no calls
   pub record PrimitivesCountNone : Type 0 where
     pub same : (f : ℕ) (p : Prim) (values : List (Shown S)) (state : StateOf O) → HasCalls state.calls (r.primitive f p values state)
 
-  -- and write no objects
+  -- and write no stobjs
   pub record PrimitivesWriteNone : Type 0 where
-    pub same : (f : ℕ) (p : Prim) (values : List (Shown S)) (state : StateOf O) → HasObjects state.stobjs (r.primitive f p values state)
+    pub same : (f : ℕ) (p : Prim) (values : List (Shown S)) (state : StateOf O) → HasStobjs state.stobjs (r.primitive f p values state)
 
   -- the state once all frames are closed by values, and by a stop, which abandons the exports that run
   abbrev pub passed : List (Frame S B) → StateOf O → StateOf O

@@ -3,7 +3,7 @@ use Rattle.std.specs.Prelude.{◌≡◌, ℕ, zero, suc, []}
 use Rattle.model_terms.specs.Cores.{Core}
 use Rattle.model_eval.specs.Outcomes.{StateOf, OutcomeOf}
 use Rattle.model_eval.specs.Keeping.{Keeping}
-use Rattle.model_eval.specs.Scopes.{Variables}
+use Rattle.model_eval.specs.Variables.{Variables}
 use Rattle.model_eval.specs.Evaluated.{RulesOf}
 use Rattle.model_machine.specs.Frames.{Begin, Machine, Turned, Going, Over}
 use Rattle.model_machine.specs.Turns.{turn_of}

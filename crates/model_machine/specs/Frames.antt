@@ -4,7 +4,7 @@ use Rattle.model_terms.specs.Cores.{Core, Cores}
 use Rattle.model_terms.specs.Worlds.{FunctionOfAbstract}
 use Rattle.model_eval.specs.Outcomes.{Shown, Stop, Origin, StateOf, OutcomeOf}
 use Rattle.model_eval.specs.Keeping.{Loan}
-use Rattle.model_eval.specs.Scopes.{Variables}
+use Rattle.model_eval.specs.Variables.{Variables}
 
 -- an export's call: what it left behind, and the number that it has among the outer calls; `B` is what a call leaves behind
 pub record Begun (B : Type 0) : Type 0 where

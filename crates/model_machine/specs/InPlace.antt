@@ -1,10 +1,10 @@
--- The machine with objects in place, and checked evaluation in place.
+-- The machine with stobjs in place, and checked evaluation in place.
 use Rattle.std.specs.Prelude.{◌≡◌, ℕ, ◌≤◌, List}
 use Rattle.model_symbols.specs.Symbols.{Package}
 use Rattle.model_terms.specs.Cores.{Core}
 use Rattle.model_terms.specs.Worlds.{World}
 use Rattle.model_eval.specs.Outcomes.{StateOf}
-use Rattle.model_eval.specs.Scopes.{Variables}
+use Rattle.model_eval.specs.Variables.{Variables}
 use Rattle.model_eval.specs.PlacesKeeping.{Places, Closed, Store}
 use Rattle.model_eval.specs.Outcomes.{State}
 use Rattle.model_eval.specs.Checked.{checked_rules, checked}
@@ -26,7 +26,7 @@ pub record RunsInPlace : Type 0 where
       → state.stobjs.journal ≡ Closed → state.calls ≤ limit → Leads (in_place_rules w packages limit) n (Going (begins depth form variables state)) m
       → HasStateNow (in_place_rules w packages limit) m.frames m.state (in_place w packages m.state.calls depth form variables state)
 
--- the same machine with objects kept as lists ends with what checked evaluation gives
+-- the same machine with stobjs kept as lists ends with what checked evaluation gives
 pub record RunsOnLists : Type 0 where
   pub ends : (w : World) (packages : List Package) (limit depth : ℕ) (form : Core) (variables : Variables ℕ) (state : State ℕ)
       → (n : ℕ) × EndsIn (checked_rules w packages limit) n (turn_of (checked_rules w packages limit) (begun_on depth form variables state)) (checked w packages limit depth form variables state)

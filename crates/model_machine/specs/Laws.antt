@@ -2,7 +2,7 @@
 use Rattle.std.specs.Prelude.{◌≡◌, ℕ, suc}
 use Rattle.model_terms.specs.Cores.{Core}
 use Rattle.model_eval.specs.Outcomes.{StateOf}
-use Rattle.model_eval.specs.Scopes.{Variables}
+use Rattle.model_eval.specs.Variables.{Variables}
 use Rattle.model_eval.specs.Keeping.{Keeping}
 use Rattle.model_eval.specs.Evaluated.{RulesOf, evaluated}
 use Rattle.model_machine.specs.Frames.{Machine, Going}

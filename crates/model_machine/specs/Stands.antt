@@ -2,7 +2,7 @@
 use Rattle.std.specs.Prelude.{ℕ, suc, List, [], ◌∷◌, ◌++◌, Option, Some, None, if◌then◌else◌}
 use Rattle.model_eval.specs.Outcomes.{Shown, Guard, StateOf, OutcomeOf, Gives, Stops, then_with, with_state, stops_here, cut_at}
 use Rattle.model_eval.specs.Keeping.{Keeping, handed, taken_back, unmaking}
-use Rattle.model_eval.specs.Scopes.{Variables, bound, single}
+use Rattle.model_eval.specs.Variables.{Variables, bound, single}
 use Rattle.model_eval.specs.Evaluated.{RulesOf, EvaluatorOf, is_false, scoped, exec_called, called, in_order, all_borrowed, put_back, with_loans, evaluated}
 use Rattle.model_eval.specs.Checked.{inside_after, checked_export}
 use Rattle.model_machine.specs.Frames.{Export, Then, ThenBody, ThenValues, ThenCall, Step, Test, Parts, Several, Calling, Guarding, Running, Allowing, Exporting, Borrowing, Producing, Putting, Local, Last, Frame, Control, Begin, Give, Stopped, Machine, Turned, Going, Over}

@@ -7,12 +7,12 @@ use Rattle.model_terms.specs.Cores.{Core, Cores, Reached, Var, Const, If, Let, M
 use Rattle.model_terms.specs.Worlds.{Definition, FunctionOfAbstract, definition, Primitive, Defined, Macro, Constant, Concrete, Generated, Abstract, OfAbstract, Named, Signed}
 use Rattle.model_terms.specs.declared.role.AbstractRole.{AbstractRole}
 use Rattle.model_terms.specs.declared.role.AbstractRole.TheVariants as abstract_role
-use Rattle.model_eval.specs.Outcomes.{Shown, Plain, Stobj, Stop, Guard, Steps, Depth, Origin, StateOf, OutcomeOf, Gives, Stops, Unknown, here, inside_of, cut_before, one_more_call}
+use Rattle.model_eval.specs.Outcomes.{Shown, Plain, StobjNamed, Stop, Guard, Steps, Depth, Origin, StateOf, OutcomeOf, Gives, Stops, Unknown, here, inside_of, cut_before, one_more_call}
 use Rattle.model_eval.specs.Keeping.{Loan, Keeping, outer_value, entering, leaving, put_all, ending_loans, unmaking, beginning, committing, abandoning}
-use Rattle.model_eval.specs.Scopes.{Variables, variable_in, bound, single, plain, inner_variables}
-use Rattle.model_eval.specs.Worlds.{stobj_layout}
-use Rattle.model_eval.specs.Generated.{generated}
-use Rattle.model_eval.specs.Children.{is_reached, loan_values, indices, are_twins}
+use Rattle.model_eval.specs.Variables.{Variables, variable_in, bound, single, plain, inner_variables}
+use Rattle.model_eval.specs.StobjLayouts.{stobj_layout}
+use Rattle.model_eval.specs.GeneratedCalls.{generated}
+use Rattle.model_eval.specs.Lending.{is_reached, loan_values, indices, are_twins}
 use Rattle.model_eval.specs.Evaluated.{RulesOf, is_false, leaf, loan_of, loaned_variables, lending, stobj_let_word}
 use Rattle.model_machine.specs.Frames.{Begun, Export, Then, ThenBody, ThenValues, ThenCall, Step, Test, Parts, Several, Calling, Guarding, Running, Allowing, Exporting, Borrowing, Producing, Putting, Local, Last, Frame, Control, Begin, Give, Stopped, Machine, Turned, Going, Over}
 
@@ -29,7 +29,7 @@ module _ {S O B : Type 0} {keeping : Keeping S O B} (r : RulesOf keeping) where
   out_of None state = state
   out_of (Some x) state = committing keeping (record state { outer = x.outer })
 
-  -- after a stop in it the object is as it was at its call
+  -- after a stop in it the stobj is as it was at its call
   abbrev pub abandoned : Option (Export S B) → StateOf O → StateOf O
   abandoned None state = state
   abandoned (Some x) state = abandoning keeping x.actuals x.begun.before (record state { outer = x.outer })
@@ -89,7 +89,7 @@ module _ {S O B : Type 0} {keeping : Keeping S O B} (r : RulesOf keeping) where
   call_by_definition export abstract room variables frames (Some (Constant f value)) name values state = refuse export room variables frames name values state
   call_by_definition export abstract room variables frames (Some (Concrete d class)) name values state = refuse export room variables frames name values state
   call_by_definition export abstract room variables frames (Some (Generated g)) name values state =
-      done export room variables frames (generated keeping r.kind g (stobj_layout r.see r.world g.object) values state)
+      done export room variables frames (generated keeping r.kind g (stobj_layout r.see r.world g.stobj) values state)
   call_by_definition export abstract room variables frames (Some (Abstract d)) name values state = refuse export room variables frames name values state
   call_by_definition export abstract room variables frames (Some (OfAbstract f)) name values state = abstract f state
   call_by_definition export abstract room variables frames (Some (Named f formals)) name values state = refuse export room variables frames name values state
@@ -132,7 +132,7 @@ module _ {S O B : Type 0} {keeping : Keeping S O B} (r : RulesOf keeping) where
 
   abbrev pub reach_from : ℕ → Variables S → List (Frame S B) → (Loan S → Step S B) → ℕ → Reached → Shown S → StateOf O → Turned S O B
   reach_from room variables frames step child by (Plain o) state = stop_here None room variables frames Depth state
-  reach_from room variables frames step child by (Stobj p) state =
+  reach_from room variables frames step child by (StobjNamed p) state =
       let loan = loan_of r child p by variables in reach room variables frames (step loan) by.accessor loan state
 
   abbrev pub borrow : ℕ → Variables S → List (Frame S B) → (Loan S → Step S B) → ℕ → Option Reached → StateOf O → Turned S O B
@@ -162,12 +162,12 @@ module _ {S O B : Type 0} {keeping : Keeping S O B} (r : RulesOf keeping) where
       (next room variables frames (Putting vars ls loans consumer values) (Stopped Steps (here state)) state)
       else next room variables frames (Putting vars ls loans consumer values) (Give []) state
 
-  -- ---- local objects
+  -- ---- local stobjs
 
   abbrev pub make_local : ℕ → Variables S → List (Frame S B) → ℕ → Option (StobjList S) → List ℕ → Core → Core → StateOf O → Turned S O B
   make_local room variables frames x None names producer body state = Over Unknown
   make_local room variables frames x (Some l) names producer body state =
-      next room variables frames (Local names body) (Begin producer ((x, Stobj x) ∷ variables)) (record state { stobjs = keeping.make x l state.stobjs })
+      next room variables frames (Local names body) (Begin producer ((x, StobjNamed x) ∷ variables)) (record state { stobjs = keeping.make x l state.stobjs })
 
   -- ---- a form begins
 
@@ -180,8 +180,8 @@ module _ {S O B : Type 0} {keeping : Keeping S O B} (r : RulesOf keeping) where
   open_form room variables frames (MvLet names form body) state = next room variables frames (Several names body) (Begin form variables) state
   open_form room variables frames (StobjLet names forms vars producer consumer) state =
       next room variables frames (Borrowing names forms [] vars producer consumer) (Give []) state
-  open_form room variables frames (WithLocal object names producer body) state =
-      counted state (make_local room variables frames object (r.fresh object) names producer body) (stop_here None room variables frames Steps state)
+  open_form room variables frames (WithLocal stobj names producer body) state =
+      counted state (make_local room variables frames stobj (r.fresh stobj) names producer body) (stop_here None room variables frames Steps state)
   open_form room variables frames (MustBeEqual logic exec) state = last_form room variables frames logic variables state
   open_form room variables frames (Call f actuals) state = next_part room variables frames actuals [] (ThenCall f) state
 

@@ -1,4 +1,4 @@
--- What a turn that counts no call writes, where objects are kept in place.
+-- What a turn that counts no call writes, where stobjs are kept in place.
 use Rattle.std.specs.Prelude.{◌≡◌, ◌-◌, List, [], ◌∷◌, take, length, Option, Some, None}
 use Rattle.model_lists.specs.Lists.{StobjList}
 use Rattle.model_eval.specs.PlacesKeeping.{Places, Store, roots_restored, places_keeping}
@@ -12,7 +12,7 @@ abbrev pub roots_undone : {S B : Type 0} → Option (Export S B) → Store S →
 roots_undone None store = store.roots
 roots_undone (Some x) store = roots_restored store.journal store.roots
 
--- without the local object that was made last
+-- without the local stobj that was made last
 abbrev pub roots_without_last : {S : Type 0} → Store S → List (StobjList S)
 roots_without_last store = take (length store.roots - 1) store.roots
 
@@ -47,7 +47,7 @@ roots_stopped (Putting vars left loans consumer given) store = store.roots
 roots_stopped (Local names body) store = roots_without_last store
 roots_stopped (Last export) store = roots_undone export store
 
--- after a turn that counts no call: as they were, but where the innermost form had a local object, or runs an export and is closed by a stop
+-- after a turn that counts no call: as they were, but where the innermost form had a local stobj, or runs an export and is closed by a stop
 abbrev pub roots_left : {S B : Type 0} → Control S → List (Frame S B) → Store S → List (StobjList S)
 roots_left (Begin form variables) frames store = store.roots
 roots_left (Give values) [] store = store.roots

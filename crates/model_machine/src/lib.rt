@@ -1,4 +1,4 @@
-//! A machine of frames that evaluates core forms a turn at a time, whatever the objects are kept in. Definitions, and laws.
+//! A machine of frames that evaluates core forms a turn at a time, whatever the stobjs are kept in. Definitions, and laws.
 #![tactic(auto)]
 
 ghost use Rattle.std.specs.Prelude.{ℕ};
@@ -9,7 +9,7 @@ ghost use Rattle.model_machine.specs.Laws.{KeepsOutcomes, AlwaysEnds};
 ghost use Rattle.model_machine.specs.Writing.{WritesWhereItCounts};
 ghost use Rattle.model_machine.specs.Cutting.{IsCutNow, KeepsOutcomesAtLimits, CountsOneAtMost};
 
-/// A turn leaves the outcome of a machine what it is, where objects are kept as lists and where they are kept in place.
+/// A turn leaves the outcome of a machine what it is, where stobjs are kept as lists and where they are kept in place.
 #[tactic(auto, using(crate::proofs::Same::keeps_outcomes))]
 pub fn turns_keep_outcomes()
     ensures lists { KeepsOutcomes (lists_keeping {S = ℕ}) }
@@ -23,7 +23,7 @@ pub fn machines_end()
     ensures places { AlwaysEnds (places_keeping {S = ℕ}) }
 {}
 
-/// Where objects are kept in place and primitives write none: evaluation of a form, with no more calls than a machine that was
+/// Where stobjs are kept in place and primitives write none: evaluation of a form, with no more calls than a machine that was
 /// begun on it has counted, ends or stops in the state that the machine has, its frames closed. An export that it stops inside is
 /// undone, and what any other wrote stays.
 #[tactic(auto, using(crate::proofs::Steady::places_cut_now))]
@@ -38,14 +38,14 @@ pub fn turns_keep_outcomes_at_limits()
     ensures places { KeepsOutcomesAtLimits (places_keeping {S = ℕ}) }
 {}
 
-/// A machine with objects in place ends with what checked evaluation in place gives, and at every moment its store is that of the
+/// A machine with stobjs in place ends with what checked evaluation in place gives, and at every moment its store is that of the
 /// evaluation with no more calls than it has counted.
 #[tactic(auto, using(crate::proofs::Placed::runs_in_place))]
 pub fn machines_evaluate_in_place()
     ensures { RunsInPlace }
 {}
 
-/// The same machine with objects kept as lists ends with what checked evaluation gives.
+/// The same machine with stobjs kept as lists ends with what checked evaluation gives.
 #[tactic(auto, using(crate::proofs::Placed::runs_on_lists))]
 pub fn machines_evaluate_on_lists()
     ensures { RunsOnLists }
@@ -59,7 +59,7 @@ pub fn turns_count_one_call()
 {}
 
 /// What is written in place is written in a turn that counts a call: any other leaves the lists and the symbols, but for a local
-/// object that goes, and for an export that a stop undoes.
+/// stobj that goes, and for an export that a stop undoes.
 #[tactic(auto, using(crate::proofs::Quiet::writes_where_it_counts))]
 pub fn turns_write_where_they_count()
     ensures { WritesWhereItCounts ℕ }

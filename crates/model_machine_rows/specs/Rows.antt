@@ -6,7 +6,7 @@ use Rattle.model_eval.specs.Checked.{live}
 use Rattle.model_eval.specs.InPlace.{in_place, begun_in_place}
 use Rattle.model_eval_rows.specs.Books.{Row}
 
--- the list of each object in scope
+-- the list of each stobj in scope
 abbrev pub lists_now : {S : Type 0} → Store S → Stobjs S
 lists_now store = map (λ p. (p.0, list_at store.roots p.1)) store.scope
 

@@ -9,11 +9,11 @@ use Rattle.model_terms.specs.Worlds.{World, Definition, Ordinary, Abstract, OfAb
 use Rattle.model_terms.specs.Worlds as worlds
 use Rattle.model_terms.specs.declared.role.Role.TheVariants as role
 use Rattle.model_terms.specs.declared.role.AbstractRole.TheVariants as abstract_role
-use Rattle.model_eval.specs.Outcomes.{Plain, Stobj, Stop, Guard, Steps, Depth, Range, OutcomeOf, Outcome, Gives, Stops, Unknown}
+use Rattle.model_eval.specs.Outcomes.{Plain, StobjNamed, Stop, Guard, Steps, Depth, Range, OutcomeOf, Outcome, Gives, Stops, Unknown}
 use Rattle.model_eval.specs.PlacesKeeping.{Journal, Closed, Store}
 use Rattle.model_eval.specs.Checked.{live}
 use Rattle.model_eval.specs.InPlace.{in_place, begun_in_place}
-use Rattle.model_eval_rows.specs.Books.{Row, AreRight, number, symbol, int, quoted, call, always, items, numbers, primitives, function, generated, object, integer_field, origin, state, plus_word}
+use Rattle.model_eval_rows.specs.Books.{Row, AreRight, number, symbol, int, quoted, call, always, items, numbers, primitives, function, generated, stobj, integer_field, origin, state, plus_word}
 use Rattle.model_machine_rows.specs.Rows.{AreRightInPlace}
 
 abbrev kid : ℕ
@@ -81,11 +81,11 @@ greatest = Integer (pos (2 ^ 127 - 1))
 
 -- ---- the book
 
--- an export of a value and the object, with a guard that holds
+-- an export of a value and the stobj, with a guard that holds
 abbrev exported : ℕ → ℕ → Definition
 exported name exec = OfAbstract (record {
   name = name;
-  object = st;
+  stobj = st;
   role = abstract_role.Export;
   formals = v ∷ st ∷ [];
   signature = record { ins = Ordinary ∷ worlds.Stobj st ∷ []; outs = worlds.Stobj st ∷ [] };
@@ -97,9 +97,9 @@ exported name exec = OfAbstract (record {
 abbrev exec_function : ℕ → Core → Definition
 exec_function name body = function name (v ∷ foundation ∷ []) (Ordinary ∷ worlds.Stobj foundation ∷ []) (worlds.Stobj foundation ∷ []) always body
 
--- (let ((x form)) body), for an object
-abbrev let_object : ℕ → Core → Core → Core
-let_object object form body = Let (object ∷ []) (cores (form ∷ [])) body
+-- (let ((x form)) body), for a stobj
+abbrev let_stobj : ℕ → Core → Core → Core
+let_stobj stobj form body = Let (stobj ∷ []) (cores (form ∷ [])) body
 
 abbrev on_foundation : ℕ → List Core → Core
 on_foundation f actuals = call f (actuals ++ Var foundation ∷ [])
@@ -107,14 +107,14 @@ on_foundation f actuals = call f (actuals ++ Var foundation ∷ [])
 -- (let ((st$c (update-n$c v st$c))) (update-n$c (+ (n$c st$c) 1) st$c))
 abbrev add_body : Core
 add_body =
-    let_object foundation (on_foundation update_n_c (Var v ∷ []))
+    let_stobj foundation (on_foundation update_n_c (Var v ∷ []))
     (on_foundation update_n_c (call plus_word (on_foundation n_c [] ∷ int 1 ∷ []) ∷ []))
 
 -- (let ((st$c (update-a$ci 0 v st$c))) (let ((st$c (update-a$ci 1 v st$c))) (update-a$ci 9 v st$c))), which has no ninth
 abbrev fill_body : Core
 fill_body =
-    let_object foundation (on_foundation update_ai_c (int 0 ∷ Var v ∷ []))
-    (let_object foundation (on_foundation update_ai_c (int 1 ∷ Var v ∷ [])) (on_foundation update_ai_c (int 9 ∷ Var v ∷ [])))
+    let_stobj foundation (on_foundation update_ai_c (int 0 ∷ Var v ∷ []))
+    (let_stobj foundation (on_foundation update_ai_c (int 1 ∷ Var v ∷ [])) (on_foundation update_ai_c (int 9 ∷ Var v ∷ [])))
 
 -- (stobj-let ((kid (kid-of$c st$c))) (kid) (update-kid v kid) (update-n$c v st$c))
 abbrev keep_body : Core
@@ -125,18 +125,18 @@ keep_body =
 -- (let ((st$c (update-n$c v st$c))) (with-local-stobj st (mv-let (x st) (let ((st (add v st))) (mv 1 st)) (update-n$c 'a st$c))))
 abbrev deep_body : Core
 deep_body =
-    let_object foundation (on_foundation update_n_c (Var v ∷ []))
-    (WithLocal st (x ∷ st ∷ []) (let_object st (call add (Var v ∷ Var st ∷ [])) (Mv (cores (int 1 ∷ Var st ∷ [])))) (on_foundation update_n_c (quoted a ∷ [])))
+    let_stobj foundation (on_foundation update_n_c (Var v ∷ []))
+    (WithLocal st (x ∷ st ∷ []) (let_stobj st (call add (Var v ∷ Var st ∷ [])) (Mv (cores (int 1 ∷ Var st ∷ [])))) (on_foundation update_n_c (quoted a ∷ [])))
 
 -- (let ((st (add v st))) (add 2^127-1 st))
 abbrev both_body : Core
-both_body = let_object st (call add (Var v ∷ Var st ∷ [])) (call add (Const greatest ∷ Var st ∷ []))
+both_body = let_stobj st (call add (Var v ∷ Var st ∷ [])) (call add (Const greatest ∷ Var st ∷ []))
 
 abbrev book : World
 book =
     primitives
-    ++ (object kid (integer_field ∷ []) None kid
-    ∷ object foundation (integer_field ∷ worlds.Array (Symbol integer_word) (number 0) 3 false ∷ worlds.Child kid ∷ []) None foundation
+    ++ (stobj kid (integer_field ∷ []) None kid
+    ∷ stobj foundation (integer_field ∷ worlds.Array (Symbol integer_word) (number 0) 3 false ∷ worlds.Child kid ∷ []) None foundation
     ∷ generated update_kid kid 0 role.Update (Ordinary ∷ worlds.Stobj kid ∷ []) (worlds.Stobj kid ∷ [])
     ∷ generated n_c foundation 0 role.Access (worlds.Stobj foundation ∷ []) (Ordinary ∷ [])
     ∷ generated update_n_c foundation 0 role.Update (Ordinary ∷ worlds.Stobj foundation ∷ []) (worlds.Stobj foundation ∷ [])
@@ -163,18 +163,18 @@ book =
 
 -- ---- rows
 
--- the object with this number, and this one in the child
+-- the stobj with this number, and this one in the child
 abbrev holding : ℕ → ℕ → List (ℕ × StobjList ℕ)
 holding n in_child = (st, items (Value (number n) ∷ numbers (0 ∷ 0 ∷ 0 ∷ []) ∷ numbers (in_child ∷ []) ∷ [])) ∷ []
 
--- a call with the object, which has 4
+-- a call with the stobj, which has 4
 abbrev run : ℕ → ℕ → ℕ → Object ℕ → Outcome ℕ → Row
 run limit depth f value answer = record { world = book; limit = limit; depth = depth; stobjs = holding 4 0; form = call f (Const value ∷ Var st ∷ []); answer = answer }
 
 abbrev given : ℕ → ℕ → ℕ → Outcome ℕ
-given n in_child calls = Gives (Stobj st ∷ []) (state (holding n in_child) calls 1)
+given n in_child calls = Gives (StobjNamed st ∷ []) (state (holding n in_child) calls 1)
 
--- a stop inside an export that was the first outer call: the object is as it was
+-- a stop inside an export that was the first outer call: the stobj is as it was
 abbrev stopped : Stop ℕ → ℕ → ℕ → Outcome ℕ
 stopped stop export calls = Stops stop (origin (Some export) 1) (state (holding 4 0) calls 1)
 
@@ -187,15 +187,15 @@ stopping_rows =
     -- no call is left for the second write
     ∷ run 5 100 add (number 5) (stopped Steps add 5)
     -- the guard of the third write fails
-    ∷ run 1000 100 fill (number 7) (stopped (Guard update_ai_c (Plain (number 9) ∷ Plain (number 7) ∷ Stobj foundation ∷ [])) fill 5)
+    ∷ run 1000 100 fill (number 7) (stopped (Guard update_ai_c (Plain (number 9) ∷ Plain (number 7) ∷ StobjNamed foundation ∷ [])) fill 5)
     -- no form may be opened after the first
     ∷ run 1000 3 fill (number 7) (stopped Depth fill 3)
     -- a child was written: before it is put into its parent, and after it
     ∷ run 1000 100 keep (number 7) (given 7 7 6)
     ∷ run 4 100 keep (number 7) (stopped Steps keep 4)
     ∷ run 5 100 keep (number 7) (stopped Steps keep 5)
-    -- an export of a local object, inside: it ends, and the outer one stops; and it stops inside
-    ∷ run 1000 100 deep (number 5) (stopped (Guard update_n_c (Plain (symbol a) ∷ Stobj foundation ∷ [])) deep 11)
+    -- an export of a local stobj, inside: it ends, and the outer one stops; and it stops inside
+    ∷ run 1000 100 deep (number 5) (stopped (Guard update_n_c (Plain (symbol a) ∷ StobjNamed foundation ∷ [])) deep 11)
     ∷ run 1000 100 deep greatest (stopped (Range plus_word) deep 9)
     ∷ run 8 100 deep (number 5) (stopped Steps deep 8)
     -- what the export before it wrote stays, and it is the third outer call

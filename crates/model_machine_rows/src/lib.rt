@@ -41,8 +41,8 @@ pub fn congruent_in_place()
 {}
 
 /// Rows of evaluation in place.
-#[tactic(auto, using(crate::proofs::Computed::abstract_objects))]
-pub fn abstract_objects_in_place()
+#[tactic(auto, using(crate::proofs::Computed::abstract_stobjs))]
+pub fn abstract_stobjs_in_place()
     ensures { AreRightInPlace abstract_rows }
 {}
 
@@ -70,7 +70,7 @@ pub fn counted_in_place()
     ensures { AreRightInPlace counted_rows }
 {}
 
-/// Rows of exports that stop inside after writes: with lists and in place the object is as it was at the export's call, and in
+/// Rows of exports that stop inside after writes: with lists and in place the stobj is as it was at the export's call, and in
 /// the end no store remembers anything.
 #[tactic(auto, using(crate::proofs::Computed::stopping))]
 pub fn stops_restore()

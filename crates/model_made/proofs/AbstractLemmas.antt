@@ -1,10 +1,10 @@
--- The definition of an abstract object keeps a world lawful.
+-- The definition of an abstract stobj keeps a world lawful.
 use Rattle.std.proofs.Common.{◌≡◌, ◌≢◌, ℕ, ◌≤◌, List, [], ◌∷◌, map, length, Bool, true, false, Option, Some, None, refl, sym, ap, ◌∙◌, subst, arith, inl, inr}
 use Rattle.std.specs.Prelude.{nat_eq, ◌||◌, not, is_some, option_and_then, if◌then◌else◌}
 use Rattle.std.specs.Option.{option_map_or}
 use Rattle.std.proofs.lemmas.Bool.{eqb-true}
 use Rattle.std.proofs.lemmas.List.{length-replicate}
-use Rattle.model_terms.specs.Worlds.{World, Out, Ordinary, Stobj, Scope, Signature, Definition, AbstractDescriptor, definition, name_of, Primitive, Defined, Macro, Constant, Concrete, Generated, Abstract, OfAbstract, Named, Signed}
+use Rattle.model_terms.specs.Worlds.{World, Out, Ordinary, Stobj, Scope, Signature, Definition, AbstractDescriptor, definition, definition_name, Primitive, Defined, Macro, Constant, Concrete, Generated, Abstract, OfAbstract, Named, Signed}
 use Rattle.model_terms.specs.Classes as classes
 use Rattle.model_terms.specs.Classes.{class_in, has, repeats}
 use Rattle.model_terms.specs.Outputs.{signature_in, signature_of}
@@ -13,24 +13,23 @@ use Rattle.model_accepted.specs.Threaded as threaded
 use Rattle.model_accepted.specs.Threaded.{layout_of, AreFormals, formal_entries, AreOnly, IsConcrete, Runs}
 use Rattle.model_accepted.proofs.AcceptLemmas.{both_true, not_true, false_true, neither}
 use Rattle.model_expansion.specs.Expansion.{arity_of}
-use Rattle.model_expansion.specs.Forms.{among}
 use Rattle.model_stobjs.specs.Heads.{name_in_use}
-use Rattle.model_stobjs.specs.Abstracts.{with_object_named, abstracted, are_good_formals, is_good_formal, is_only, guard_scope}
+use Rattle.model_stobjs.specs.Abstracts.{with_stobj_named, abstracted, are_good_formals, is_good_formal, is_only, guard_scope}
 use Rattle.model_made.specs.Lawful.{IsWellMade, IsLawfulWorld}
 use Rattle.model_made.proofs.MemberLemmas.{IsIn}
 use Rattle.model_made.proofs.DraftLemmas.{first_free}
 
 -- ---- lists of kinds and formals
 
--- formals with the object's name in place of one
+-- formals with the stobj's name in place of one
 module _ (w : World) (st : ℕ) where
-  pub named_length : (ks : List Out) (xs : List ℕ) → length ks ≡ length xs → length (with_object_named w st ks xs) ≡ length xs
+  pub named_length : (ks : List Out) (xs : List ℕ) → length ks ≡ length xs → length (with_stobj_named w st ks xs) ≡ length xs
   named_length [] [] e = refl
   named_length [] (x ∷ xs) e = omega (arith, e)
   named_length (k ∷ ks) [] e = omega (arith, e)
   named_length (k ∷ ks) (x ∷ xs) e = let h = named_length ks xs (omega (arith, e)) in omega (arith, h)
 
-  pub are_formals : (ks : List Out) (xs : List ℕ) → length ks ≡ length xs → AreFormals (with_object_named w st ks xs) (map (abstracted w st) ks)
+  pub are_formals : (ks : List Out) (xs : List ℕ) → length ks ≡ length xs → AreFormals (with_stobj_named w st ks xs) (map (abstracted w st) ks)
   are_formals [] [] e = tt
   are_formals [] (x ∷ xs) e = tt
   are_formals (k ∷ ks) [] e = absurd (let never : ⊥ = omega (arith, e) in never)
@@ -60,14 +59,14 @@ module _ (w : World) (st : ℕ) where
 
   -- ---- they differ
 
-  unchanged : (ks : List Out) (xs : List ℕ) → classes.stobjs ks ≡ [] → length ks ≡ length xs → with_object_named w st ks xs ≡ xs
+  unchanged : (ks : List Out) (xs : List ℕ) → classes.stobjs ks ≡ [] → length ks ≡ length xs → with_stobj_named w st ks xs ≡ xs
   unchanged [] [] o e = refl
   unchanged [] (x ∷ xs) o e = absurd (let never : ⊥ = omega (arith, e) in never)
   unchanged (k ∷ ks) [] o e = absurd (let never : ⊥ = omega (arith, e) in never)
   unchanged (Ordinary ∷ ks) (x ∷ xs) o e = ap (λ (ys : List ℕ). x ∷ ys) (unchanged ks xs o (omega (arith, e)))
   unchanged (Stobj c ∷ ks) (x ∷ xs) o e = cc
 
-  still_not : (ks : List Out) (xs : List ℕ) (y : ℕ) → nat_eq y st ≡ false → has xs y ≡ false → has (with_object_named w st ks xs) y ≡ false
+  still_not : (ks : List Out) (xs : List ℕ) (y : ℕ) → nat_eq y st ≡ false → has xs y ≡ false → has (with_stobj_named w st ks xs) y ≡ false
   still_not [] xs y d h = refl
   still_not (k ∷ ks) [] y d h = refl
   still_not (Ordinary ∷ ks) (x ∷ xs) y d h =
@@ -75,7 +74,7 @@ module _ (w : World) (st : ℕ) where
   still_not (Stobj c ∷ ks) (x ∷ xs) y d h =
       let both = neither (nat_eq y x) (has xs y) h in rw (d, still_not ks xs y d both.1) refl
 
-  -- no ordinary formal is the object
+  -- no ordinary formal is the stobj
   abbrev pub OthersDiffer : List Out → List ℕ → Type 0
   OthersDiffer [] xs = Unit {0}
   OthersDiffer (k ∷ ks) [] = Unit {0}
@@ -96,7 +95,7 @@ module _ (w : World) (st : ℕ) where
   not_object (Ordinary ∷ ks) (x ∷ xs) o e d = rw (turned x d.0, not_object ks xs o (omega (arith, e)) d.1) refl
   not_object (Stobj c ∷ ks) (x ∷ xs) o e d = cc
 
-  pub differ_still : (ks : List Out) (xs : List ℕ) (c : ℕ) → classes.stobjs ks ≡ c ∷ [] → length ks ≡ length xs → OthersDiffer ks xs → repeats xs ≡ false → repeats (with_object_named w st ks xs) ≡ false
+  pub differ_still : (ks : List Out) (xs : List ℕ) (c : ℕ) → classes.stobjs ks ≡ c ∷ [] → length ks ≡ length xs → OthersDiffer ks xs → repeats xs ≡ false → repeats (with_stobj_named w st ks xs) ≡ false
   differ_still [] xs c o e d r = cc
   differ_still (k ∷ ks) [] c o e d r = refl
   differ_still (Ordinary ∷ ks) (x ∷ xs) c o e d r =
@@ -144,31 +143,31 @@ only_is x c (Stobj y ∷ os) a e = first e ∙ a.0
 
 -- ---- names of new definitions
 
-in_names : (es : World) (e : Definition) → IsIn e es → among (name_of e) (map name_of es) ≡ true
+in_names : (es : World) (e : Definition) → IsIn e es → has (map definition_name es) (definition_name e) ≡ true
 in_names [] e i = absurd i
-in_names (d ∷ es) e (inl same) = ap (λ (b : Bool). b || among (name_of e) (map name_of es)) (ap (λ (c : Definition). nat_eq (name_of e) (name_of c)) (sym same) ∙ same_number (name_of e))
-in_names (d ∷ es) e (inr i) = go (nat_eq (name_of e) (name_of d)) (in_names es e i)
+in_names (d ∷ es) e (inl same) = ap (λ (b : Bool). b || has (map definition_name es) (definition_name e)) (ap (λ (c : Definition). nat_eq (definition_name e) (definition_name c)) (sym same) ∙ same_number (definition_name e))
+in_names (d ∷ es) e (inr i) = go (nat_eq (definition_name e) (definition_name d)) (in_names es e i)
   where
-    go : (b : Bool) → among (name_of e) (map name_of es) ≡ true → (b || among (name_of e) (map name_of es)) ≡ true
+    go : (b : Bool) → has (map definition_name es) (definition_name e) ≡ true → (b || has (map definition_name es) (definition_name e)) ≡ true
     go true h = refl
     go false h = h
 
 pub record IsThere (w es : World) (e : Definition) : Type 0 where
-  pub nothing : definition w (name_of e) ≡ None
-  pub found : definition es (name_of e) ≡ Some e
+  pub nothing : definition w (definition_name e) ≡ None
+  pub found : definition es (definition_name e) ≡ Some e
 
-pub names_there : (w es : World) → name_in_use w (map name_of es) ≡ None → (e : Definition) → IsIn e es → IsThere w es e
+pub names_there : (w es : World) → name_in_use w (map definition_name es) ≡ None → (e : Definition) → IsIn e es → IsThere w es e
 names_there w [] h e i = absurd i
 names_there w (d ∷ es) h e (inl same) =
-    let both = first_free w (name_of d) (map name_of es) h in
-    subst (IsThere w (d ∷ es)) (sym same) (record { nothing = both.0.nothing; found = ap (λ (b : Bool). if b then Some d else definition es (name_of d)) (same_number (name_of d)) })
+    let both = first_free w (definition_name d) (map definition_name es) h in
+    subst (IsThere w (d ∷ es)) (sym same) (record { nothing = both.0.nothing; found = ap (λ (b : Bool). if b then Some d else definition es (definition_name d)) (same_number (definition_name d)) })
 names_there w (d ∷ es) h e (inr i) =
-    let both = first_free w (name_of d) (map name_of es) h in
+    let both = first_free w (definition_name d) (map definition_name es) h in
     let later : IsThere w es e = names_there w es both.1 e i in
-    record { nothing = later.nothing; found = go (nat_eq (name_of e) (name_of d)) refl both.0.once later.found }
+    record { nothing = later.nothing; found = go (nat_eq (definition_name e) (definition_name d)) refl both.0.once later.found }
   where
-    go : (b : Bool) → nat_eq (name_of e) (name_of d) ≡ b → among (name_of d) (map name_of es) ≡ false → definition es (name_of e) ≡ Some e → (if b then Some d else definition es (name_of e)) ≡ Some e
-    go true f once found = false_true (sym once ∙ (ap (λ (n : ℕ). among n (map name_of es)) (sym (eqb-true (name_of e) (name_of d) f)) ∙ in_names es e i))
+    go : (b : Bool) → nat_eq (definition_name e) (definition_name d) ≡ b → has (map definition_name es) (definition_name d) ≡ false → definition es (definition_name e) ≡ Some e → (if b then Some d else definition es (definition_name e)) ≡ Some e
+    go true f once found = false_true (sym once ∙ (ap (λ (n : ℕ). has (map definition_name es) n) (sym (eqb-true (definition_name e) (definition_name d) f)) ∙ in_names es e i))
     go false f once found = found
 
 -- ---- functions that are there

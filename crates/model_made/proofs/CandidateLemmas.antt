@@ -6,7 +6,7 @@ use Rattle.std.specs.List.{find, filter}
 use Rattle.std.specs.Map.{lookup}
 use Rattle.std.proofs.lemmas.Bool.{eqb-true}
 use Rattle.std.proofs.lemmas.List.{append-nil, length-map}
-use Rattle.model_terms.specs.Worlds.{World, Ordinary, Signature, Definition, definition, name_of, Named}
+use Rattle.model_terms.specs.Worlds.{World, Ordinary, Signature, Definition, definition, definition_name, Named}
 use Rattle.model_terms.specs.Classes.{repeats}
 use Rattle.model_terms.specs.Rounds.{Member, formal_kind, formal_kinds, clique}
 use Rattle.model_eval_laws.proofs.Lists.{same_number}
@@ -105,7 +105,7 @@ candidate_at cs x = find (λ (c : Candidate). nat_eq x c.member.name) cs
 
 -- what stands in a world for each
 pub record Stand (f : Candidate → Definition) : Type 0 where
-  pub names : (c : Candidate) → name_of (f c) ≡ c.member.name
+  pub names : (c : Candidate) → definition_name (f c) ≡ c.member.name
 
 module _ (f : Candidate → Definition) (stand : Stand f) where
   pub standing_at : (cs : List Candidate) (x : ℕ) → definition (map f cs) x ≡ option_map f (candidate_at cs x)

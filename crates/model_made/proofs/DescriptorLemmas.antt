@@ -1,4 +1,4 @@
--- What is known of a descriptor that is granted: its name is new, children are concrete and do not nest too deep, and it matches the object that it is congruent to.
+-- What is known of a descriptor that is granted: its name is new, children are concrete and do not nest too deep, and it matches the stobj that it is congruent to.
 use Rattle.std.proofs.Common.{◌≡◌, ℕ, ◌+◌, ◌<◌, List, [], ◌∷◌, drop, Bool, true, false, Option, Some, None, refl, sym, ap, subst, arith}
 use Rattle.std.specs.Prelude.{◌&&◌, nat_le, nat_eq, is_some, option_map, option_and_then, if◌then◌else◌, codes}
 use Rattle.std.specs.Option.{option_or, option_map_or}
@@ -14,26 +14,27 @@ use Rattle.model_prims.proofs.Same.{same_tells}
 use Rattle.model_lists.specs.Types.{ValueType}
 use Rattle.model_lists.specs.Layouts.{Layout}
 use Rattle.model_terms.specs.Worlds.{World, Shape, Scalar, Array, Hash, Child, Children, Field, Descriptor, definition}
-use Rattle.model_terms.specs.Children.{descriptor_of}
-use Rattle.model_eval.specs.Worlds.{fields_layout}
+use Rattle.model_terms.specs.Accessors.{descriptor_of}
+use Rattle.model_eval.specs.StobjLayouts.{fields_layout, most_nested}
 use Rattle.model_accepted.proofs.AcceptLemmas.{both_true, false_true}
 use Rattle.model_expansion.specs.Words.{array_word, hash_table_word}
-use Rattle.model_expansion.specs.Forms.{elements, each, is, is_keyword_object}
+use Rattle.model_expansion.specs.Forms.{elements, each, is, is_keyword_object, symbol_or_nil}
 use Rattle.model_expansion.specs.TypeTerms.{accepted_type}
 use Rattle.model_expansion.specs.Expansion.{Progress}
 use Rattle.model_stobjs.specs.Answers.{Grants}
 use Rattle.model_stobjs.specs.Heads.{name_in_use}
 use Rattle.model_stobjs.specs.Keys.{Keyed, key_value, keys_in}
-use Rattle.model_stobjs.specs.Objects.{WrittenField, WrittenObject, before_first, from_first, renaming_of, is_executable_flag, written_field, object_keys, old_object, written_with, written_in, written_object, symbol_or_nil, most_nested, nesting_within, length_in, up_to, most_elements, most_children, test_of_word, initial_value, unless_resizable, nested_object, array_shape, hash_shape, listed_shape, other_shape, scalar_or_other, shape_of, MadeNames, names_made, ShapedField, shaped_fields, object_makings, made_count, fields_with, descriptor_with, same_test, same_flag, same_shape, mismatch_from, mismatch, room_for, names_of_field, new_names, named_descriptor, descriptor_made, names_then, written_then, descriptor_read}
-use Rattle.model_made.specs.Lawful.{IsConcreteObject, IsConcreteIfAny}
+use Rattle.model_stobjs.specs.Descriptors.{WrittenField, WrittenStobj, before_first, from_first, renaming_of, is_executable_flag, written_field, stobj_keys, old_stobj, written_with, written_in, written_stobj, nesting_within, length_in, up_to, most_children, test_of_word, initial_value, unless_resizable, nested_stobj, array_shape, hash_shape, listed_shape, other_shape, scalar_or_other, shape_of, MadeNames, names_made, ShapedField, shaped_fields, stobj_makings, made_count, fields_with, descriptor_with, same_test, same_flag, same_shape, mismatch_from, mismatch, room_for, names_of_field, new_names, named_descriptor, descriptor_made, names_then, written_then, descriptor_read}
+use Rattle.model_made.specs.Lawful.{IsConcreteStobj, IsConcreteIfAny}
 use Rattle.model_made.proofs.EventLemmas.{IfGrants, grants_unless, grants_needing}
 use Rattle.model_made.proofs.DraftLemmas.{none_or, first_free}
 use Rattle.model_made.proofs.NestingLemmas.{see}
+use Rattle.model_lists.specs.Effects.{most_elements}
 
 module _ (w : World) where
-  -- a child is a concrete object that nests fewer than so many
+  -- a child is a concrete stobj that nests fewer than so many
   pub record IsNested (x : ℕ) : Type 0 where
-    pub concrete : IsConcreteObject w x
+    pub concrete : IsConcreteStobj w x
     pub nests : nesting_within w most_nested x < most_nested
 
   abbrev pub IsGoodShape : Shape → Type 0
@@ -51,10 +52,10 @@ module _ (w : World) where
   NestedIfAny None = Unit {0}
   NestedIfAny (Some x) = IsNested x
 
-  some_concrete : (x : ℕ) → is_some (descriptor_of w x) ≡ true → IsConcreteObject w x
+  some_concrete : (x : ℕ) → is_some (descriptor_of w x) ≡ true → IsConcreteStobj w x
   some_concrete x e = go (descriptor_of w x) refl e
     where
-      go : (d : Option Descriptor) → descriptor_of w x ≡ d → is_some d ≡ true → IsConcreteObject w x
+      go : (d : Option Descriptor) → descriptor_of w x ≡ d → is_some d ≡ true → IsConcreteStobj w x
       go None f g = false_true g
       go (Some d) f g = (d, f)
 
@@ -68,7 +69,7 @@ module _ (w : World) where
         go true = tt
         go false = h
 
-    nested_good : (o : Object ℕ) → NestedIfAny (nested_object w f o)
+    nested_good : (o : Object ℕ) → NestedIfAny (nested_stobj w f o)
     nested_good (Integer n) = tt
     nested_good (Symbol s) = go (is_some (descriptor_of w s)) refl (nat_le (nesting_within w most_nested s + 1) most_nested) refl
       where
@@ -82,9 +83,9 @@ module _ (w : World) where
     nested_good (Text bytes) = tt
     nested_good (Pair a d) = tt
 
-    elements_good : (object : ℕ) → IsNested object → (n : Option ℕ) → GoodIfAny (option_map (λ n. Children object n) n)
-    elements_good object h None = tt
-    elements_good object h (Some n) = h
+    elements_good : (stobj : ℕ) → IsNested stobj → (n : Option ℕ) → GoodIfAny (option_map (λ n. Children stobj n) n)
+    elements_good stobj h None = tt
+    elements_good stobj h (Some n) = h
 
     array_good : (t : Object ℕ) (v : Option (ValueType ℕ)) (n : Option ℕ) → GoodIfAny (array_shape w f t v n)
     array_good t (Some accepted) n = go (option_and_then (up_to most_elements) n)
@@ -93,11 +94,11 @@ module _ (w : World) where
         go None = tt
         go (Some n) = tt
     array_good t None n =
-        unless_good (option_and_then (λ object. option_map (λ n. Children object n) (option_and_then (up_to most_children) n)) (nested_object w f t)) (go (nested_object w f t) (nested_good t))
+        unless_good (option_and_then (λ stobj. option_map (λ n. Children stobj n) (option_and_then (up_to most_children) n)) (nested_stobj w f t)) (go (nested_stobj w f t) (nested_good t))
       where
-        go : (v : Option ℕ) → NestedIfAny v → GoodIfAny (option_and_then (λ object. option_map (λ n. Children object n) (option_and_then (up_to most_children) n)) v)
+        go : (v : Option ℕ) → NestedIfAny v → GoodIfAny (option_and_then (λ stobj. option_map (λ n. Children stobj n) (option_and_then (up_to most_children) n)) v)
         go None h = tt
-        go (Some object) h = elements_good object h (option_and_then (up_to most_children) n)
+        go (Some stobj) h = elements_good stobj h (option_and_then (up_to most_children) n)
 
     hash_good : (t : Object ℕ) → GoodIfAny (hash_shape w f t)
     hash_good t = unless_good (option_map (λ test. Hash test) (test_of_word t)) (go (test_of_word t))
@@ -121,7 +122,7 @@ module _ (w : World) where
 
     other_good : (o : Object ℕ) → GoodIfAny (other_shape w f o)
     other_good (Integer n) = tt
-    other_good (Symbol s) = unless_good (option_map Child (nested_object w f (Symbol s))) (go (nested_object w f (Symbol s)) (nested_good (Symbol s)))
+    other_good (Symbol s) = unless_good (option_map Child (nested_stobj w f (Symbol s))) (go (nested_stobj w f (Symbol s)) (nested_good (Symbol s)))
       where
         go : (v : Option ℕ) → NestedIfAny v → GoodIfAny (option_map Child v)
         go None h = tt
@@ -165,7 +166,7 @@ module _ (w : World) where
 
   -- ---- congruence
 
-  old_good : (o : Option (Object ℕ)) (v : Option ℕ) → old_object w o ≡ Some v → IsConcreteIfAny w v
+  old_good : (o : Option (Object ℕ)) (v : Option ℕ) → old_stobj w o ≡ Some v → IsConcreteIfAny w v
   old_good None None e = tt
   old_good None (Some x) e = cc
   old_good (Some (Integer n)) v e = cc
@@ -180,14 +181,14 @@ module _ (w : World) where
   old_good (Some (Text bytes)) v e = cc
   old_good (Some (Pair a d)) v e = cc
 
-  abbrev WrittenIfAny : Option WrittenObject → Type 0
+  abbrev WrittenIfAny : Option WrittenStobj → Type 0
   WrittenIfAny None = Unit {0}
   WrittenIfAny (Some o) = IsConcreteIfAny w o.congruent_to
 
   with_written : (name : Object ℕ) (fields : List WrittenField) (ks : List Keyed) → WrittenIfAny (written_with w name fields ks)
-  with_written name fields ks = go (is_executable_flag (key_value (codes "NON-EXECUTABLE") ks)) (old_object w (key_value (codes "CONGRUENT-TO") ks)) refl (renaming_of (key_value (codes "RENAMING") ks))
+  with_written name fields ks = go (is_executable_flag (key_value (codes "NON-EXECUTABLE") ks)) (old_stobj w (key_value (codes "CONGRUENT-TO") ks)) refl (renaming_of (key_value (codes "RENAMING") ks))
     where
-      go : (b : Bool) (v : Option (Option ℕ)) → old_object w (key_value (codes "CONGRUENT-TO") ks) ≡ v → (r : Option (List (ℕ × ℕ)))
+      go : (b : Bool) (v : Option (Option ℕ)) → old_stobj w (key_value (codes "CONGRUENT-TO") ks) ≡ v → (r : Option (List (ℕ × ℕ)))
           → WrittenIfAny (if b then option_and_then (λ renaming. option_map (λ old. record { name = name; fields = fields; renaming = renaming; congruent_to = old }) v) r else None)
       go false v e r = tt
       go true v e None = tt
@@ -197,15 +198,15 @@ module _ (w : World) where
   in_written : (symbols : List QualifiedName) (os : List (Object ℕ)) → WrittenIfAny (written_in w symbols os)
   in_written symbols [] = tt
   in_written symbols (name ∷ os) =
-      go (each (written_field symbols) (before_first (is_keyword_object symbols) os)) (keys_in symbols object_keys (from_first (is_keyword_object symbols) os))
+      go (each (written_field symbols) (before_first (is_keyword_object symbols) os)) (keys_in symbols stobj_keys (from_first (is_keyword_object symbols) os))
     where
       go : (fs : Option (List WrittenField)) (ks : Option (List Keyed)) → WrittenIfAny (option_and_then (λ fields. option_and_then (written_with w name fields) ks) fs)
       go None ks = tt
       go (Some fs) None = tt
       go (Some fs) (Some ks) = with_written name fs ks
 
-  written_good : (symbols : List QualifiedName) (d : Object ℕ) → WrittenIfAny (written_object w symbols d)
-  unfolding written_object
+  written_good : (symbols : List QualifiedName) (d : Object ℕ) → WrittenIfAny (written_stobj w symbols d)
+  unfolding written_stobj
   written_good symbols d = go (elements d)
     where
       go : (os : Option (List (Object ℕ))) → WrittenIfAny (option_and_then (written_in w symbols) os)
@@ -220,7 +221,7 @@ module _ (w : World) where
     pub congruent : IsConcreteIfAny w d.congruent_to
     pub matches : mismatch w d ≡ None
 
-  made_new : (o : WrittenObject) (m : MadeNames) (p : Progress) → IsConcreteIfAny w o.congruent_to → IfGrants IsNew (descriptor_made w o (shaped_fields w o.fields) m p)
+  made_new : (o : WrittenStobj) (m : MadeNames) (p : Progress) → IsConcreteIfAny w o.congruent_to → IfGrants IsNew (descriptor_made w o (shaped_fields w o.fields) m p)
   made_new o m p h =
       let d : Descriptor = descriptor_with o (shaped_fields w o.fields) m.numbers in
       grants_unless IsNew (room_for m) (named_descriptor w d) (record p { symbols = m.symbols }) (λ room.
@@ -236,11 +237,11 @@ module _ (w : World) where
   pub descriptor_new : (packages : List Package) (d : Object ℕ) (p : Progress) → IfGrants IsNew (descriptor_read w packages d p)
   unfolding descriptor_read
   descriptor_new packages d p =
-      grants_needing IsNew (written_object w p.symbols d) _ (written_then w packages) p (λ o same.
+      grants_needing IsNew (written_stobj w p.symbols d) _ (written_then w packages) p (λ o same.
       grants_unless IsNew _ (names_then w packages o (shaped_fields w o.fields)) p (λ e.
-      made_new o (names_made packages o.renaming (object_makings p.symbols (symbol_or_nil o.name) (shaped_fields w o.fields)) p.symbols) p (subst WrittenIfAny same (written_good p.symbols d))))
+      made_new o (names_made packages o.renaming (stobj_makings p.symbols (symbol_or_nil o.name) (shaped_fields w o.fields)) p.symbols) p (subst WrittenIfAny same (written_good p.symbols d))))
 
--- ---- objects that match have one layout
+-- ---- stobjs that match have one layout
 
 same_tests : (a b : Test) → same_test a b ≡ true → a ≡ b
 same_tests Eq Eq e = refl

@@ -7,21 +7,21 @@ use Rattle.model_objects.specs.Object.{Object}
 use Rattle.model_symbols.specs.Symbols.{QualifiedName}
 use Rattle.model_symbols.specs.Opening.{truth}
 use Rattle.model_terms.specs.Cores.{Core, Var}
-use Rattle.model_terms.specs.Worlds.{World, Definition, definition, name_of, Named}
+use Rattle.model_terms.specs.Worlds.{World, Definition, definition, definition_name, Named}
 use Rattle.model_terms.specs.Classes.{has, repeats}
 use Rattle.model_eval_laws.proofs.Lists.{same_number}
 use Rattle.model_accepted.proofs.AcceptLemmas.{neither, true_false}
 use Rattle.model_expansion.specs.Words.{xargs_word, type_word, ignore_word, ignorable_word, optimize_word}
-use Rattle.model_expansion.specs.Forms.{elements, each, is, among, is_key, is_keyword_object}
+use Rattle.model_expansion.specs.Forms.{elements, each, is, is_key, is_keyword_object, symbol_or_nil}
 use Rattle.model_expansion.specs.Faults.{Refusal, DuplicateFormal, NameInUse}
 use Rattle.model_expansion.specs.TypeTerms.{declared_test}
-use Rattle.model_expansion.specs.Layers.{GuardItem, Holds, Meets}
+use Rattle.model_expansion.specs.Layers.{GuardItem, FormHolds, Meets}
 use Rattle.model_expansion_forms.specs.Rows.{IsShapedItem, AreShapedItems}
 use Rattle.model_expansion_forms.proofs.LawLemmas.{tests_are_shaped}
 use Rattle.model_stobjs.specs.Answers.{first_given}
 use Rattle.model_stobjs.specs.Heads.{is_reserved, is_in_use, name_in_use, bad_name}
 use Rattle.model_events.specs.Declarations.{repeated_among, bad_formal, formals_of, formals_fault, Declared, nothing_declared, both_declared, all_declared, stobjs_of, keyed_declared, xargs_declared, declared_formal, type_items, items_of_all, type_declared, headed_declared, item_in, item_declared, declarations}
-use Rattle.model_events.specs.Functions.{WrittenFunction, number, Draft, drafts_of, written_fault}
+use Rattle.model_events.specs.Functions.{WrittenFunction, Draft, drafts_of, written_fault}
 
 pub none_or : {A : Type 0} (a b : Option A) → option_or a b ≡ None → (a ≡ None) × (b ≡ None)
 none_or None b e = (refl, e)
@@ -32,7 +32,7 @@ none_or (Some v) b e = cc
 -- a name that is free has no definition, and does not come again
 pub record IsFree (w : World) (others : List ℕ) (s : ℕ) : Type 0 where
   pub nothing : definition w s ≡ None
-  pub once : among s others ≡ false
+  pub once : has others s ≡ false
 
 pub first_free : (w : World) (s : ℕ) (ss : List ℕ) → name_in_use w (s ∷ ss) ≡ None → IsFree w ss s × (name_in_use w ss ≡ None)
 unfolding name_in_use
@@ -45,62 +45,62 @@ first_free w s ss e = go (is_in_use w ss s) refl e
     go : (b : Bool) → is_in_use w ss s ≡ b → (if b then Some (NameInUse s) else name_in_use w ss) ≡ None → IsFree w ss s × (name_in_use w ss ≡ None)
     go true f g = cc
     go false f g =
-        let both = neither (is_some (definition w s)) (is_reserved s || among s ss) f in
-        (record { nothing = nothing_there (definition w s) both.0; once = (neither (is_reserved s) (among s ss) both.1).1 }, g)
+        let both = neither (is_some (definition w s)) (is_reserved s || has ss s) f in
+        (record { nothing = nothing_there (definition w s) both.0; once = (neither (is_reserved s) (has ss s) both.1).1 }, g)
 
 -- new definitions, none of which has the name of another
 abbrev pub AreNew : World → World → Type 0
 AreNew w [] = Unit {0}
-AreNew w (d ∷ ds) = (definition w (name_of d) ≡ None) × (definition ds (name_of d) ≡ None) × AreNew w ds
+AreNew w (d ∷ ds) = (definition w (definition_name d) ≡ None) × (definition ds (definition_name d) ≡ None) × AreNew w ds
 
 abbrev pub named_draft : Draft → Definition
 named_draft d = Named d.name d.formals
 
-not_among : (ds : List Draft) (x : ℕ) → among x (map (λ (d : Draft). d.name) ds) ≡ false → definition (map named_draft ds) x ≡ None
+not_among : (ds : List Draft) (x : ℕ) → has (map (λ (d : Draft). d.name) ds) x ≡ false → definition (map named_draft ds) x ≡ None
 not_among [] x e = refl
 not_among (d ∷ ds) x e = go (nat_eq x d.name) e (not_among ds x)
   where
-    go : (b : Bool) → (b || among x (map (λ (d : Draft). d.name) ds)) ≡ false → (among x (map (λ (d : Draft). d.name) ds) ≡ false → definition (map named_draft ds) x ≡ None)
+    go : (b : Bool) → (b || has (map (λ (d : Draft). d.name) ds) x) ≡ false → (has (map (λ (d : Draft). d.name) ds) x ≡ false → definition (map named_draft ds) x ≡ None)
         → (if b then Some (named_draft d) else definition (map named_draft ds) x) ≡ None
     go true f later = true_false f
     go false f later = later f
 
 abbrev number_of_name : WrittenFunction → ℕ
-number_of_name f = number f.name
+number_of_name f = symbol_or_nil f.name
 
 module _ (symbols : List QualifiedName) where
-  fewer : (fs : List WrittenFunction) (x : ℕ) → among x (map number_of_name fs) ≡ false → among x (map (λ (d : Draft). d.name) (drafts_of symbols fs)) ≡ false
+  fewer : (fs : List WrittenFunction) (x : ℕ) → has (map number_of_name fs) x ≡ false → has (map (λ (d : Draft). d.name) (drafts_of symbols fs)) x ≡ false
   fewer [] x e = refl
   fewer (f ∷ fs) x e =
-      let both = neither (nat_eq x (number f.name)) (among x (map number_of_name fs)) e in
+      let both = neither (nat_eq x (symbol_or_nil f.name)) (has (map number_of_name fs) x) e in
       go (declarations symbols (formals_of symbols f.formals) f.items) (fewer fs x both.1) both.0
     where
-      go : (v : Option Declared) → among x (map (λ (d : Draft). d.name) (drafts_of symbols fs)) ≡ false → nat_eq x (number f.name) ≡ false
-          → among x (map (λ (d : Draft). d.name) (option_map_or (λ d. d ∷ drafts_of symbols fs)
-          (option_map (λ declared. record { name = number f.name; formals = formals_of symbols f.formals; declared = declared; body = f.body; executable = f.executable }) v) (drafts_of symbols fs))) ≡ false
+      go : (v : Option Declared) → has (map (λ (d : Draft). d.name) (drafts_of symbols fs)) x ≡ false → nat_eq x (symbol_or_nil f.name) ≡ false
+          → has (map (λ (d : Draft). d.name) (option_map_or (λ d. d ∷ drafts_of symbols fs)
+          (option_map (λ declared. record { name = symbol_or_nil f.name; formals = formals_of symbols f.formals; declared = declared; body = f.body; executable = f.executable }) v) (drafts_of symbols fs))) x ≡ false
       go None later other = later
       go (Some declared) later other = rw other later
 
   drafts_new : (w : World) (fs : List WrittenFunction) → name_in_use w (map number_of_name fs) ≡ None → AreNew w (map named_draft (drafts_of symbols fs))
   drafts_new w [] e = tt
   drafts_new w (f ∷ fs) e =
-      let both = first_free w (number f.name) (map number_of_name fs) e in
+      let both = first_free w (symbol_or_nil f.name) (map number_of_name fs) e in
       go (declarations symbols (formals_of symbols f.formals) f.items) both.0 (drafts_new w fs both.1)
     where
-      go : (v : Option Declared) → IsFree w (map number_of_name fs) (number f.name) → AreNew w (map named_draft (drafts_of symbols fs))
+      go : (v : Option Declared) → IsFree w (map number_of_name fs) (symbol_or_nil f.name) → AreNew w (map named_draft (drafts_of symbols fs))
           → AreNew w (map named_draft (option_map_or (λ d. d ∷ drafts_of symbols fs)
-          (option_map (λ declared. record { name = number f.name; formals = formals_of symbols f.formals; declared = declared; body = f.body; executable = f.executable }) v) (drafts_of symbols fs)))
+          (option_map (λ declared. record { name = symbol_or_nil f.name; formals = formals_of symbols f.formals; declared = declared; body = f.body; executable = f.executable }) v) (drafts_of symbols fs)))
       go None free later = later
-      go (Some declared) free later = (free.nothing, not_among (drafts_of symbols fs) (number f.name) (fewer fs (number f.name) free.once), later)
+      go (Some declared) free later = (free.nothing, not_among (drafts_of symbols fs) (symbol_or_nil f.name) (fewer fs (symbol_or_nil f.name) free.once), later)
 
 -- ---- formals
 
-not_seen : (seen xs : List ℕ) → repeated_among seen xs ≡ None → (y : ℕ) → among y seen ≡ true → among y xs ≡ false
+not_seen : (seen xs : List ℕ) → repeated_among seen xs ≡ None → (y : ℕ) → has seen y ≡ true → has xs y ≡ false
 not_seen seen [] e y h = refl
-not_seen seen (x ∷ xs) e y h = go (among x seen) refl e (not_seen (x ∷ seen) xs)
+not_seen seen (x ∷ xs) e y h = go (has seen x) refl e (not_seen (x ∷ seen) xs)
   where
-    go : (b : Bool) → among x seen ≡ b → (if b then Some (DuplicateFormal x) else repeated_among (x ∷ seen) xs) ≡ None
-        → (repeated_among (x ∷ seen) xs ≡ None → (y : ℕ) → among y (x ∷ seen) ≡ true → among y xs ≡ false) → (nat_eq y x || among y xs) ≡ false
+    go : (b : Bool) → has seen x ≡ b → (if b then Some (DuplicateFormal x) else repeated_among (x ∷ seen) xs) ≡ None
+        → (repeated_among (x ∷ seen) xs ≡ None → (y : ℕ) → has (x ∷ seen) y ≡ true → has xs y ≡ false) → (nat_eq y x || has xs y) ≡ false
     go true f g later = cc
     go false f g later = by_test (nat_eq y x) refl
       where
@@ -108,19 +108,19 @@ not_seen seen (x ∷ xs) e y h = go (among x seen) refl e (not_seen (x ∷ seen)
         either_true true c k = refl
         either_true false c k = k
 
-        by_test : (c : Bool) → nat_eq y x ≡ c → (c || among y xs) ≡ false
-        by_test true k = true_false (sym h ∙ (ap (λ (z : ℕ). among z seen) (eqb-true y x k) ∙ f))
-        by_test false k = later g y (either_true (nat_eq y x) (among y seen) h)
+        by_test : (c : Bool) → nat_eq y x ≡ c → (c || has xs y) ≡ false
+        by_test true k = true_false (sym h ∙ (ap (λ (z : ℕ). has seen z) (eqb-true y x k) ∙ f))
+        by_test false k = later g y (either_true (nat_eq y x) (has seen y) h)
 
 once_each : (seen xs : List ℕ) → repeated_among seen xs ≡ None → repeats xs ≡ false
 once_each seen [] e = refl
-once_each seen (x ∷ xs) e = go (among x seen) e (not_seen (x ∷ seen) xs) (once_each (x ∷ seen) xs)
+once_each seen (x ∷ xs) e = go (has seen x) e (not_seen (x ∷ seen) xs) (once_each (x ∷ seen) xs)
   where
-    first : among x (x ∷ seen) ≡ true
-    first = ap (λ (b : Bool). b || among x seen) (same_number x)
+    first : has (x ∷ seen) x ≡ true
+    first = ap (λ (b : Bool). b || has seen x) (same_number x)
 
     go : (b : Bool) → (if b then Some (DuplicateFormal x) else repeated_among (x ∷ seen) xs) ≡ None
-        → (repeated_among (x ∷ seen) xs ≡ None → (y : ℕ) → among y (x ∷ seen) ≡ true → among y xs ≡ false) → (repeated_among (x ∷ seen) xs ≡ None → repeats xs ≡ false) → (has xs x || repeats xs) ≡ false
+        → (repeated_among (x ∷ seen) xs ≡ None → (y : ℕ) → has (x ∷ seen) y ≡ true → has xs y ≡ false) → (repeated_among (x ∷ seen) xs ≡ None → repeats xs ≡ false) → (has xs x || repeats xs) ≡ false
     go true g h k = cc
     go false g h k = rw (h g x first, k g) refl
 
@@ -163,7 +163,7 @@ module _ (symbols : List QualifiedName) where
   keyed_shaped : (k v : Object ℕ) → ShapedIfAny (keyed_declared symbols k v)
   keyed_shaped k v =
       shaped_if (not (is_keyword_object symbols k)) None _ tt
-      (shaped_if (is_key symbols (codes "GUARD") k) (Some (record { guards = Holds v ∷ []; stobjs = [] })) _ (tt, tt)
+      (shaped_if (is_key symbols (codes "GUARD") k) (Some (record { guards = FormHolds v ∷ []; stobjs = [] })) _ (tt, tt)
       (shaped_if (is_key symbols (codes "STOBJS") k) _ (Some nothing_declared) (names_shaped (stobjs_of v)) tt))
     where
       names_shaped : (names : Option (List ℕ)) → ShapedIfAny (option_map (λ names. record { guards = []; stobjs = names }) names)
@@ -286,7 +286,7 @@ drafts_sound symbols (f ∷ fs) e = go (formals_fault symbols f.formals) refl e 
   where
     draft : (v : Option Declared) → ShapedIfAny v → repeats (formals_of symbols f.formals) ≡ false → AreSound (drafts_of symbols fs)
         → AreSound (option_map_or (λ d. d ∷ drafts_of symbols fs)
-        (option_map (λ declared. record { name = number f.name; formals = formals_of symbols f.formals; declared = declared; body = f.body; executable = f.executable }) v) (drafts_of symbols fs))
+        (option_map (λ declared. record { name = symbol_or_nil f.name; formals = formals_of symbols f.formals; declared = declared; body = f.body; executable = f.executable }) v) (drafts_of symbols fs))
     draft None h differ later = later
     draft (Some declared) h differ later = (record { differ = differ; shaped = h }, later)
 

@@ -4,9 +4,9 @@ use Rattle.std.specs.Prelude.{option_map, option_and_then, if◌then◌else◌}
 use Rattle.model_objects.specs.Object.{Object}
 use Rattle.model_terms.specs.Worlds.{World, Definition, definition, Macro, Constant, Concrete}
 use Rattle.model_terms.specs.Classes.{class_in}
-use Rattle.model_terms.specs.Children.{accessor_in}
+use Rattle.model_terms.specs.Accessors.{accessor_in}
 use Rattle.model_eval.specs.Outcomes.{Outcome, Gives, Stops, Unknown}
-use Rattle.model_expansion.specs.Forms.{elements}
+use Rattle.model_expansion.specs.Forms.{elements, symbol_or_nil}
 use Rattle.model_terms.specs.Faults.{constant_fault}
 use Rattle.model_eval.specs.Checked.{checked, begun}
 use Rattle.model_expansion.specs.Faults.{Refusal, Thread}
@@ -15,7 +15,6 @@ use Rattle.model_stobjs.specs.Answers.{EventResult, Grants, Refuses, Halts, then
 use Rattle.model_events.specs.Macros.{WrittenMacro, written_macro, body_then, macro_then, macro_read}
 use Rattle.model_events.specs.Macros as macros
 use Rattle.model_events.specs.Constants.{valued, constant_evaluated, constant_value, name_and_form, constant_then, constant_read}
-use Rattle.model_events.specs.Constants as constants
 use Rattle.model_made.proofs.WorldLemmas.{EachDefinition, each_found}
 use Rattle.model_made.proofs.GrowthLemmas.{Brings}
 use Rattle.model_made.proofs.OpeningLemmas.{IsPlain, plain_closed, plain_made, plain_class, plain_accessor}
@@ -81,14 +80,14 @@ macro_plain x d p =
     grants_needing (EachDefinition IsPlain) (written_macro d) _ (macro_then x) p (λ m same.
     grants_unless (EachDefinition IsPlain) (macros.written_fault p.symbols x.world m) _ p (λ free.
     grants_expanding (EachDefinition IsPlain) _ (body_then x.world m) (λ body q made.
-    grants_unless (EachDefinition IsPlain) _ (Grants (Macro (macros.number m.name) (macros.macro_formals m.formals) body ∷ [])) q (λ ruled. (tt, tt)))))
+    grants_unless (EachDefinition IsPlain) _ (Grants (Macro (symbol_or_nil m.name) (macros.macro_formals m.formals) body ∷ [])) q (λ ruled. (tt, tt)))))
 
 pub constant_plain : (x : Setting) (d : Object ℕ) (p : Progress) → IfGrants (EachDefinition IsPlain) (constant_read x d p)
 unfolding constant_read
 constant_plain x d p =
     grants_needing (EachDefinition IsPlain) (option_and_then name_and_form (elements d)) _ (constant_then x) p (λ c same.
-    grants_unless (EachDefinition IsPlain) _ (constant_value x c.1 (λ value. Grants (Constant (constants.number c.0) value ∷ []))) p (λ free.
-    grants_expanding (EachDefinition IsPlain) _ (constant_evaluated x (λ value. Grants (Constant (constants.number c.0) value ∷ []))) (λ f q made.
+    grants_unless (EachDefinition IsPlain) _ (constant_value x c.1 (λ value. Grants (Constant (symbol_or_nil c.0) value ∷ []))) p (λ free.
+    grants_expanding (EachDefinition IsPlain) _ (constant_evaluated x (λ value. Grants (Constant (symbol_or_nil c.0) value ∷ []))) (λ f q made.
     grants_unless (EachDefinition IsPlain) (option_map Thread (constant_fault x.world f))
-    (λ after. valued (checked x.world x.packages x.steps x.depth f [] (begun after.symbols [] after.calls)) (λ value. Grants (Constant (constants.number c.0) value ∷ [])) after) q (λ ruled.
-    grants_valued (EachDefinition IsPlain) (checked x.world x.packages x.steps x.depth f [] (begun q.symbols [] q.calls)) (λ value. Grants (Constant (constants.number c.0) value ∷ [])) q (λ o after. (tt, tt))))))
+    (λ after. valued (checked x.world x.packages x.steps x.depth f [] (begun after.symbols [] after.calls)) (λ value. Grants (Constant (symbol_or_nil c.0) value ∷ [])) after) q (λ ruled.
+    grants_valued (EachDefinition IsPlain) (checked x.world x.packages x.steps x.depth f [] (begun q.symbols [] q.calls)) (λ value. Grants (Constant (symbol_or_nil c.0) value ∷ [])) q (λ o after. (tt, tt))))))

@@ -1,4 +1,4 @@
--- What an abstract object brings, once nothing is refused.
+-- What an abstract stobj brings, once nothing is refused.
 use Rattle.std.proofs.Common.{◌≡◌, ℕ, zero, suc, ◌+◌, ◌≤◌, List, [], ◌∷◌, ◌++◌, map, length, Bool, true, false, Option, Some, None, refl, sym, ap, ◌∙◌, subst, arith, inl, inr}
 use Rattle.std.specs.Prelude.{◌⊎◌, nat_eq, not, is_some, unwrap_or, replicate, option_map, option_and_then, if◌then◌else◌}
 use Rattle.std.specs.Option.{option_or, option_map_or}
@@ -10,15 +10,15 @@ use Rattle.model_objects.specs.Object.{Object}
 use Rattle.model_symbols.specs.Symbols.{Package}
 use Rattle.model_terms.specs.declared.rule.Mode.TheVariants.{Executable}
 use Rattle.model_terms.specs.declared.role.AbstractRole.TheVariants as abstract_role
-use Rattle.model_terms.specs.Worlds.{World, Out, Ordinary, Stobj, Field, Scope, Signature, Descriptor, Definition, AbstractFunction, AbstractDescriptor, FunctionOfAbstract, definition, name_of, Primitive, Defined, Macro, Constant, Concrete, Generated, Abstract, OfAbstract, Named, Signed}
+use Rattle.model_terms.specs.Worlds.{World, Out, Ordinary, Stobj, Field, Scope, Signature, Descriptor, Definition, AbstractFunction, AbstractDescriptor, FunctionOfAbstract, definition, definition_name, Primitive, Defined, Macro, Constant, Concrete, Generated, Abstract, OfAbstract, Named, Signed}
 use Rattle.model_terms.specs.Classes as classes
-use Rattle.model_terms.specs.Classes.{class_in, is_object_name, repeats}
+use Rattle.model_terms.specs.Classes.{class_in, is_stobj_name, repeats}
 use Rattle.model_terms.specs.Outputs.{signature_in, signature_of}
-use Rattle.model_terms.specs.Children.{ChildAccessor, descriptor_of, accessor_in, is_internal, is_executable}
+use Rattle.model_terms.specs.Accessors.{ChildAccessor, descriptor_of, accessor_in, is_internal, is_executable}
 use Rattle.model_terms.specs.Nested.{same_kinds}
 use Rattle.model_terms.specs.Faults.{first_fault}
 use Rattle.model_terms.specs.Sites.{one_ordinary}
-use Rattle.model_eval.specs.Worlds.{layout_within, defined_layout}
+use Rattle.model_eval.specs.StobjLayouts.{layout_within, defined_layout}
 use Rattle.model_eval_laws.specs.Agreement.{ClosedDefinition, StandsIn}
 use Rattle.model_accepted.specs.Threaded.{layout_of, AreOnly, IsConcrete, Runs}
 use Rattle.model_lawful.specs.Growth.{Becomes}
@@ -32,11 +32,11 @@ use Rattle.model_expansion_forms.specs.Rows.{Takes}
 use Rattle.model_expansion_forms.proofs.NodeLemmas.{each_wider, each_both}
 use Rattle.model_stobjs.specs.Answers.{Grants, unless, first_given}
 use Rattle.model_stobjs.specs.Heads.{name_in_use, bad_name}
-use Rattle.model_stobjs.specs.Objects.{MadeNames, names_made, room_for, most_of, field_nesting, nesting_by, nesting_within, held_object}
+use Rattle.model_stobjs.specs.Descriptors.{MadeNames, names_made, room_for, most_of, field_nesting, nesting_by, nesting_within, held_stobj}
 use Rattle.model_stobjs.specs.Guards.{renamed_name}
 use Rattle.model_stobjs.specs.Abstracts as abstracts
-use Rattle.model_stobjs.specs.Abstracts.{WrittenAbstract, written_abstract, slots, makings, filled, made_then, abstract_then, abstract_read, new_names, wanted_functions, foundation_missing, missing_function, signature, signature_mismatch, may_be_exec_of, formals_in, exec_matches, logic_matches, export_matches, with_object_named, abstracted, export_formals, guard_in, logic_guard, event_functions, to_exports, export_guard, export_entry, abstract_entries, guard_scope, guard_fault, function_refusal}
-use Rattle.model_made.specs.Lawful.{IsWellMade, IsAdmitted, HasObjectOrFew, IsConcreteObject, FieldsNest, NestsIfAny, object_names, IsLawfulWorld}
+use Rattle.model_stobjs.specs.Abstracts.{WrittenAbstract, written_abstract, slots, makings, filled, made_then, abstract_then, abstract_read, new_names, wanted_functions, foundation_missing, missing_function, signature, signature_mismatch, may_be_exec_of, formals_in, exec_matches, logic_matches, export_matches, with_stobj_named, abstracted, export_formals, guard_in, logic_guard, event_functions, to_exports, export_guard, export_entry, abstract_entries, guard_scope, guard_fault, function_refusal}
+use Rattle.model_made.specs.Lawful.{IsWellMade, IsAdmitted, HasStobjOrFew, IsConcreteStobj, FieldsNest, NestsIfAny, stobj_names, IsLawfulWorld}
 use Rattle.model_made.proofs.WorldLemmas.{definition_old, definition_new, settled}
 use Rattle.model_made.proofs.FormLemmas.{formed_of, closed_running}
 use Rattle.model_made.proofs.GrowthLemmas.{Brings, suits, stands_still, takes_still, closed_grown, objects_grown, made_grown, grows}
@@ -82,10 +82,10 @@ module _ (w : World) (l : IsLawfulWorld w) (d : AbstractDescriptor) (accepted : 
   found_part : option_or (foundation_missing w d) (option_or (first_given (missing_function w) (wanted_functions d)) (option_or (signature_mismatch w d) (first_given (guard_fault w d) d.exports))) ≡ None
   found_part = (none_or (name_in_use w (new_names d)) _ accepted).1
 
-  foundation_concrete : IsConcreteObject w d.foundation
+  foundation_concrete : IsConcreteStobj w d.foundation
   foundation_concrete = go (descriptor_of w d.foundation) refl (unless_holds (is_some (descriptor_of w d.foundation)) _ (none_or (foundation_missing w d) _ found_part).0)
     where
-      go : (v : Option Descriptor) → descriptor_of w d.foundation ≡ v → is_some v ≡ true → IsConcreteObject w d.foundation
+      go : (v : Option Descriptor) → descriptor_of w d.foundation ≡ v → is_some v ≡ true → IsConcreteStobj w d.foundation
       go None e f = false_true f
       go (Some c) e f = (c, e)
 
@@ -197,7 +197,7 @@ module _ (w : World) (l : IsLawfulWorld w) (d : AbstractDescriptor) (accepted : 
   no_objects zero = refl
   no_objects (suc n) = no_objects n
 
-  few_of : (ins : List Out) (n : ℕ) → ins ≡ replicate n Ordinary → HasObjectOrFew ins → length ins ≤ 1
+  few_of : (ins : List Out) (n : ℕ) → ins ≡ replicate n Ordinary → HasStobjOrFew ins → length ins ≤ 1
   few_of ins n e (inl h) = h
   few_of ins n e (inr h) = absurd (h (ap classes.stobjs e ∙ no_objects n))
 
@@ -216,7 +216,7 @@ module _ (w : World) (l : IsLawfulWorld w) (d : AbstractDescriptor) (accepted : 
       long : (n : ℕ) (ins : List Out) → n ≡ length ins → length ins ≤ 1 → n ≤ 1
       long n ins e h = omega (arith, e, h)
 
-      few : (c : Definition) (s : Signature) → definition w f.logic ≡ Some c → signature_in c ≡ Some s → Some s ≡ Some (logic_there f i).signature → HasObjectOrFew s.ins → length (abstracts.formals w f.logic) ≤ 1
+      few : (c : Definition) (s : Signature) → definition w f.logic ≡ Some c → signature_in c ≡ Some s → Some s ≡ Some (logic_there f i).signature → HasStobjOrFew s.ins → length (abstracts.formals w f.logic) ≤ 1
       few c s e g same o =
           let same_signature : (logic_there f i).signature ≡ s = is same in
           long (length (abstracts.formals w f.logic)) s.ins (sym (same_length f i) ∙ (sym (logic_ins f i) ∙ ap (λ (t : Signature). length t.ins) same_signature))
@@ -254,25 +254,25 @@ module _ (w : World) (l : IsLawfulWorld w) (d : AbstractDescriptor) (accepted : 
   abbrev creator_entry : Definition
   creator_entry = abstracts.function_of w d d.creator abstract_role.Creator [] (record { ins = []; outs = Stobj d.name ∷ [] }) true_core
 
-  exports_named : (fs : List AbstractFunction) → map name_of (map (export_entry w d) fs) ≡ map (λ (f : AbstractFunction). f.name) fs
+  exports_named : (fs : List AbstractFunction) → map definition_name (map (export_entry w d) fs) ≡ map (λ (f : AbstractFunction). f.name) fs
   exports_named [] = refl
   exports_named (f ∷ fs) = ap (λ (ns : List ℕ). f.name ∷ ns) (exports_named fs)
 
-  entries_free : name_in_use w (map name_of (abstract_entries w d)) ≡ None
+  entries_free : name_in_use w (map definition_name (abstract_entries w d)) ≡ None
   entries_free = ap (λ (ns : List ℕ). name_in_use w (d.name ∷ d.recognizer.name ∷ d.creator.name ∷ ns)) (exports_named d.exports) ∙ names_free
 
-  stands_new : (e : Definition) → IsIn e (abstract_entries w d) → definition with_abstract (name_of e) ≡ Some e
+  stands_new : (e : Definition) → IsIn e (abstract_entries w d) → definition with_abstract (definition_name e) ≡ Some e
   stands_new e i =
       let there : IsThere w (abstract_entries w d) e = names_there w (abstract_entries w d) entries_free e i in
-      definition_new w (abstract_entries w d) (name_of e) there.nothing ∙ there.found
+      definition_new w (abstract_entries w d) (definition_name e) there.nothing ∙ there.found
 
   in_mapped : (f : AbstractFunction) (fs : List AbstractFunction) → IsIn f fs → IsIn (export_entry w d f) (map (export_entry w d) fs)
   in_mapped f [] i = absurd i
   in_mapped f (g ∷ fs) (inl same) = inl (ap (export_entry w d) same)
   in_mapped f (g ∷ fs) (inr i) = inr (in_mapped f fs i)
 
-  object_there : definition with_abstract d.name ≡ Some (Abstract d)
-  object_there = stands_new (Abstract d) (inl refl)
+  stobj_there : definition with_abstract d.name ≡ Some (Abstract d)
+  stobj_there = stands_new (Abstract d) (inl refl)
 
   -- ---- functions that stand for others take as many arguments
 
@@ -403,7 +403,7 @@ module _ (w : World) (l : IsLawfulWorld w) (d : AbstractDescriptor) (accepted : 
   later_stands : (f : ℕ) → HasSignature w l f → StandsIn with_abstract f
   later_stands f h = stands_still w (abstract_entries w d) l f (h.there, h.stands)
 
-  object_stands : (x : ℕ) → is_object_name with_abstract x ≡ true → StandsIn with_abstract x
+  object_stands : (x : ℕ) → is_stobj_name with_abstract x ≡ true → StandsIn with_abstract x
   object_stands x e = go (definition with_abstract x) refl e
     where
       go : (c : Option Definition) → definition with_abstract x ≡ c → is_some (option_and_then class_in c) ≡ true → StandsIn with_abstract x
@@ -434,13 +434,13 @@ module _ (w : World) (l : IsLawfulWorld w) (d : AbstractDescriptor) (accepted : 
 
       made_new : (x : ℕ) (c : Definition) → IsNewDefinition x c → IsWellMade with_abstract c
       made_new x c (the_object e f) = subst (IsWellMade with_abstract) (sym f) tt
-      made_new x c (the_recognizer e) = subst (IsWellMade with_abstract) (sym e) (refl, (refl, tt), (d, object_there), inl (omega arith))
-      made_new x c (the_creator e) = subst (IsWellMade with_abstract) (sym e) (refl, tt, (d, object_there), inl (omega arith))
+      made_new x c (the_recognizer e) = subst (IsWellMade with_abstract) (sym e) (refl, (refl, tt), (d, stobj_there), inl (omega arith))
+      made_new x c (the_creator e) = subst (IsWellMade with_abstract) (sym e) (refl, tt, (d, stobj_there), inl (omega arith))
       made_new x c (an_export f i e) =
           subst (IsWellMade with_abstract) (sym e) (
             length-map (signature w f.exec).ins (abstracted w d.name) ∙ (same_length f i ∙ sym (named_length w d.name (signature w f.exec).ins (abstracts.formals w f.logic) (same_length f i))),
             only_abstracted w d.name (signature w f.exec).ins,
-            (d, object_there),
+            (d, stobj_there),
             inr (some_abstracted w d.name (signature w f.exec).ins d.foundation [] (matches f i).one),
           )
 
@@ -450,7 +450,7 @@ module _ (w : World) (l : IsLawfulWorld w) (d : AbstractDescriptor) (accepted : 
       class_new : (x : ℕ) (c : Definition) → IsNewDefinition x c → (k : ℕ) → class_in c ≡ Some k → (layout_of with_abstract x ≡ layout_of with_abstract k) × StandsIn with_abstract k
       class_new x c (the_object e f) k g =
           let same : d.name ≡ k = number_is (ap class_in (sym f) ∙ g) in
-          (ap (layout_of with_abstract) (e ∙ same), subst (StandsIn with_abstract) same (Abstract d, object_there))
+          (ap (layout_of with_abstract) (e ∙ same), subst (StandsIn with_abstract) same (Abstract d, stobj_there))
       class_new x c (the_recognizer e) k g = none_some (class_in c) (ap class_in e) g
       class_new x c (the_creator e) k g = none_some (class_in c) (ap class_in e) g
       class_new x c (an_export f i e) k g = none_some (class_in c) (ap class_in e) g
@@ -473,11 +473,11 @@ module _ (w : World) (l : IsLawfulWorld w) (d : AbstractDescriptor) (accepted : 
       not_concrete x class c (the_creator e) = differs c class _ e
       not_concrete x class c (an_export f i e) = differs c class _ e
 
-  -- ---- the object has the layout of its foundation
+  -- ---- the stobj has the layout of its foundation
 
   most_nest : (fs : List Field) → FieldsNest w fs → most_of (map (field_nesting (nesting_within w 64)) fs) ≤ 63
   most_nest [] h = omega arith
-  most_nest (f ∷ fs) h = let here = go (held_object f.shape) h.0 in let later = most_nest fs h.1 in omega (arith, here, later)
+  most_nest (f ∷ fs) h = let here = go (held_stobj f.shape) h.0 in let later = most_nest fs h.1 in omega (arith, here, later)
     where
       go : (v : Option ℕ) → NestsIfAny w v → option_map_or (nesting_within w 64) v 0 ≤ 63
       go None k = omega arith
@@ -493,7 +493,7 @@ module _ (w : World) (l : IsLawfulWorld w) (d : AbstractDescriptor) (accepted : 
 
   object_layout_is : layout_of with_abstract d.name ≡ layout_within see with_abstract 64 d.foundation
   unfolding layout_within
-  object_layout_is = ap (defined_layout see (layout_within see with_abstract 64)) object_there
+  object_layout_is = ap (defined_layout see (layout_within see with_abstract 64)) stobj_there
 
   alike_layout : layout_of with_abstract d.name ≡ layout_of with_abstract d.foundation
   alike_layout =
@@ -533,7 +533,7 @@ module _ (w : World) (l : IsLawfulWorld w) (d : AbstractDescriptor) (accepted : 
   exec_concrete f i (OfAbstract g) e s =
       let made : IsWellMade w (OfAbstract g) = l.made f.exec (OfAbstract g) e in
       let at = concrete_at w d.foundation foundation_concrete in
-      let same : d.foundation ≡ g.object = only_is g.object d.foundation g.signature.ins made.1 (ap (λ (t : Signature). classes.stobjs t.ins) (is s ∙ sym (signature_is f.exec (exec_there f i))) ∙ (matches f i).one) in
+      let same : d.foundation ≡ g.stobj = only_is g.stobj d.foundation g.signature.ins made.1 (ap (λ (t : Signature). classes.stobjs t.ins) (is s ∙ sym (signature_is f.exec (exec_there f i))) ∙ (matches f i).one) in
       clash (sym (ap (definition w) same ∙ made.2.1) ∙ at.there)
     where
       is : {a b : Signature} → Some a ≡ Some b → a ≡ b
@@ -583,7 +583,7 @@ module _ (w : World) (l : IsLawfulWorld w) (d : AbstractDescriptor) (accepted : 
   abbrev exported : AbstractFunction → FunctionOfAbstract
   exported f = record {
     name = f.name;
-    object = d.name;
+    stobj = d.name;
     role = abstract_role.Export;
     formals = export_formals w d f;
     signature = abstracts.abstracted_signature w d.name (signature w f.exec);
@@ -600,7 +600,7 @@ module _ (w : World) (l : IsLawfulWorld w) (d : AbstractDescriptor) (accepted : 
         distinct = export_differ f i;
         guard = guard_checked f i;
         foundation = d.foundation;
-        object_there = (Abstract d, object_there);
+        stobj_there = (Abstract d, stobj_there);
         foundation_there = stands_still w (abstract_entries w d) l d.foundation concrete_stands;
         alike = alike_layout;
         signature = signature w f.exec;
@@ -633,11 +633,11 @@ module _ (w : World) (l : IsLawfulWorld w) (d : AbstractDescriptor) (accepted : 
   pub abstract_lawful : IsLawfulWorld with_abstract
   abstract_lawful = grows w (abstract_entries w d) l brings (λ x c none e. ready_new x c (is_new x c e)) (λ x c none e. admitted_new x c (is_new x c e))
 
--- it brings one name of an object
-pub abstract_names : (w : World) (d : AbstractDescriptor) → object_names (abstract_entries w d) ≡ d.name ∷ []
+-- it brings one name of a stobj
+pub abstract_names : (w : World) (d : AbstractDescriptor) → stobj_names (abstract_entries w d) ≡ d.name ∷ []
 abstract_names w d = ap (λ (ns : List ℕ). d.name ∷ ns) (no_names d.exports)
   where
-    no_names : (fs : List AbstractFunction) → object_names (map (export_entry w d) fs) ≡ []
+    no_names : (fs : List AbstractFunction) → stobj_names (map (export_entry w d) fs) ≡ []
     no_names [] = refl
     no_names (f ∷ fs) = no_names fs
 

@@ -7,10 +7,10 @@ use Rattle.model_terms.specs.declared.rule.Mode.{Mode}
 use Rattle.model_terms.specs.declared.rule.Mode.TheVariants.{Executable, Logic}
 use Rattle.model_terms.specs.Cores.{Core, Cores, Var, Const, If, Let, Mv, MvLet, StobjLet, WithLocal, MustBeEqual, Call, none, more, count, variable, reached, reached_by}
 use Rattle.model_terms.specs.Worlds.{World, Definition, definition, Primitive, Defined, Macro, Constant, Concrete, Generated, Abstract, OfAbstract, Named, Signed, Out, Ordinary, Signature, Scope}
-use Rattle.model_terms.specs.Classes.{is_object_name}
+use Rattle.model_terms.specs.Classes.{is_stobj_name}
 use Rattle.model_terms.specs.Nested.{with_local_holds}
 use Rattle.model_terms.specs.Outputs.{signature_in}
-use Rattle.model_terms.specs.Sites.{here, first_kind, other_kinds, formal_object, actual_expected}
+use Rattle.model_terms.specs.Sites.{here, first_kind, other_kinds, formal_stobj, actual_expected}
 use Rattle.model_terms.specs.Faults.{first_fault}
 use Rattle.model_eval_laws.specs.Agreement.{ReachedStands, Closed, AllClosed, AllReached, StandsIn}
 use Rattle.model_terms_laws.specs.Laws.{AllHold}
@@ -72,7 +72,7 @@ module _ (w : World) (made : (x : ℕ) (d : Definition) → definition w x ≡ S
     formed_of (Mv parts) o h = all_formed parts o.1 h.1
     formed_of (MvLet names bound body) o h = (formed_of bound o.1 h.1, formed_of body o.2 h.2)
     formed_of (StobjLet names bound vars producer consumer) o h = (formed_of producer o.2 h.2, formed_of consumer o.3 h.3)
-    formed_of (WithLocal object names producer body) o h = (formed_of producer o.1 h.1, formed_of body o.2 h.2)
+    formed_of (WithLocal stobj names producer body) o h = (formed_of producer o.1 h.1, formed_of body o.2 h.2)
     formed_of (MustBeEqual logic exec) o h = (formed_of logic o.1 h.1, formed_of exec o.2 h.2)
     formed_of (Call f actuals) o h = (arity_here f (count actuals) o.0, all_formed actuals o.1 h.1)
 
@@ -89,8 +89,8 @@ some_stands w x n a = go (definition w x) refl a
     go None e f = cc
     go (Some d) e f = (d, e)
 
-module _ (c w : World) (mode : Mode) (stands : (object : ℕ) (names : List ℕ) (producer body : Core) (scope : Scope) (formal : Option ℕ) (expected : List Out)
-    → AllHold c mode (here (WithLocal object names producer body) scope formal expected) → StandsIn w object) where
+module _ (c w : World) (mode : Mode) (stands : (stobj : ℕ) (names : List ℕ) (producer body : Core) (scope : Scope) (formal : Option ℕ) (expected : List Out)
+    → AllHold c mode (here (WithLocal stobj names producer body) scope formal expected) → StandsIn w stobj) where
   reached_stands : (f : ℕ) (n : ℕ) → arity_of (definition w f) ≡ Some n → (actuals : Cores) → ReachedStands (StandsIn w) (reached_by f actuals)
   reached_stands f n a none = tt
   reached_stands f n a (more p none) = go (variable p)
@@ -113,7 +113,7 @@ module _ (c w : World) (mode : Mode) (stands : (object : ℕ) (names : List ℕ)
   one_reached (Mv parts) o = tt
   one_reached (MvLet names bound body) o = tt
   one_reached (StobjLet names bound vars producer consumer) o = tt
-  one_reached (WithLocal object names producer body) o = tt
+  one_reached (WithLocal stobj names producer body) o = tt
   one_reached (MustBeEqual logic exec) o = tt
   one_reached (Call f actuals) o = reached_stands f (count actuals) o.0 actuals
 
@@ -136,9 +136,9 @@ module _ (c w : World) (mode : Mode) (stands : (object : ℕ) (names : List ℕ)
     closed_of (StobjLet names bound vars producer consumer) scope formal expected all o =
         let parts = of_stobj_let c mode scope formal expected names bound vars producer consumer all in
         (all_reached bound o.1, closed_of producer _ _ _ parts.0 o.2, closed_of consumer _ _ _ parts.1 o.3)
-    closed_of (WithLocal object names producer body) scope formal expected all o =
-        let parts = of_with_local c mode scope formal expected object names producer body all in
-        (stands object names producer body scope formal expected all.0, closed_of producer _ _ _ parts.0 o.1, closed_of body _ _ _ parts.1 o.2)
+    closed_of (WithLocal stobj names producer body) scope formal expected all o =
+        let parts = of_with_local c mode scope formal expected stobj names producer body all in
+        (stands stobj names producer body scope formal expected all.0, closed_of producer _ _ _ parts.0 o.1, closed_of body _ _ _ parts.1 o.2)
     closed_of (MustBeEqual logic exec) scope formal expected all o = closed_of logic _ _ _ (of_must_be_equal c mode scope formal expected logic exec all).0 o.1
     closed_of (Call f actuals) scope formal expected all o =
         (some_stands w f (count actuals) o.0, actuals_closed actuals _ _ (of_call c mode scope formal expected f actuals all) o.1)
@@ -150,25 +150,25 @@ module _ (c w : World) (mode : Mode) (stands : (object : ℕ) (names : List ℕ)
     actuals_closed : (fs : Cores) (scope : Scope) (ins : List Out) → ActualsAccepted c mode scope ins fs → AllNodes (IsOwnCall w) fs → AllClosed (StandsIn w) fs
     actuals_closed none scope ins all o = tt
     actuals_closed (more f fs) scope ins all o =
-        (closed_of f scope (formal_object (first_kind ins)) (actual_expected (first_kind ins) f) all.0 o.0, actuals_closed fs scope (other_kinds ins) all.1 o.1)
+        (closed_of f scope (formal_stobj (first_kind ins)) (actual_expected (first_kind ins) f) all.0 o.0, actuals_closed fs scope (other_kinds ins) all.1 o.1)
 
--- a local object is one of the world of the check
-local_object : (c : World) (scope : Scope) (expected : List Out) (object : ℕ) (names : List ℕ) (producer : Core) → with_local_holds c scope expected object names producer ≡ true → is_object_name c object ≡ true
+-- a local stobj is one of the world of the check
+local_object : (c : World) (scope : Scope) (expected : List Out) (stobj : ℕ) (names : List ℕ) (producer : Core) → with_local_holds c scope expected stobj names producer ≡ true → is_stobj_name c stobj ≡ true
 unfolding with_local_holds
-local_object c scope expected object names producer e = (both_true (is_object_name c object) _ e).0
+local_object c scope expected stobj names producer e = (both_true (is_stobj_name c stobj) _ e).0
 
 executable_not_logic : Executable ≢ Logic
 executable_not_logic e = cc
 
-module _ (c w : World) (later : (x : ℕ) → is_object_name c x ≡ true → StandsIn w x) where
+module _ (c w : World) (later : (x : ℕ) → is_stobj_name c x ≡ true → StandsIn w x) where
   -- of a form that was accepted in a function that runs
   pub closed_running : (scope : Scope) (f : Core) (expected : List Out) → first_fault c Executable scope f expected ≡ None → EachNode (IsOwnCall w) f → Closed (StandsIn w) f
   closed_running scope f expected e o =
-      closed_of c w Executable (λ object names producer body scope formal expected hold.
-      later object (local_object c scope expected object names producer (not_false (with_local_holds c scope expected object names producer) (s14 c Executable (here (WithLocal object names producer body) scope formal expected) executable_not_logic hold))))
+      closed_of c w Executable (λ stobj names producer body scope formal expected hold.
+      later stobj (local_object c scope expected stobj names producer (not_false (with_local_holds c scope expected stobj names producer) (s14 c Executable (here (WithLocal stobj names producer body) scope formal expected) executable_not_logic hold))))
       f scope None expected (accepted_first c Executable scope f expected e) o
 
-  -- in a function that does not run there is no local object
+  -- in a function that does not run there is no local stobj
   pub closed_logic : (scope : Scope) (f : Core) (expected : List Out) → first_fault c Logic scope f expected ≡ None → EachNode (IsOwnCall w) f → Closed (StandsIn w) f
   closed_logic scope f expected e o =
-      closed_of c w Logic (λ object names producer body scope formal expected hold. true_false (hold S16)) f scope None expected (accepted_first c Logic scope f expected e) o
+      closed_of c w Logic (λ stobj names producer body scope formal expected hold. true_false (hold S16)) f scope None expected (accepted_first c Logic scope f expected e) o

@@ -7,9 +7,9 @@ use Rattle.model_objects.specs.Object.{Object}
 use Rattle.model_terms.specs.declared.rule.Mode.TheVariants.{Executable, Logic}
 use Rattle.model_terms.specs.Cores.{Core, Place}
 use Rattle.model_terms.specs.Worlds.{World, Signature, Function, Descriptor, Definition, definition, Concrete, Named, Signed}
-use Rattle.model_terms.specs.Classes.{class_in, class_of, is_object_name}
+use Rattle.model_terms.specs.Classes.{class_in, class_of, is_stobj_name}
 use Rattle.model_terms.specs.Outputs.{signature_in}
-use Rattle.model_terms.specs.Children.{accessor_in, runs, is_executable}
+use Rattle.model_terms.specs.Accessors.{accessor_in, runs, is_executable}
 use Rattle.model_terms.specs.Sites.{one_ordinary}
 use Rattle.model_terms.specs.Rounds.{formal_scope}
 use Rattle.model_terms.specs.Faults.{Fault, first_fault, at, head_fault, function_fault, ordinary_scope, logic_fault, outs_of, member_fault, clique_fault}
@@ -25,7 +25,7 @@ use Rattle.model_expansion_forms.proofs.NodeLemmas.{each_wider}
 use Rattle.model_terms.specs.Cores as cores
 use Rattle.model_stobjs.specs.Answers.{Grants}
 use Rattle.model_events.specs.Functions.{ordinary_signature, written_functions, Draft, drafts_of, written_fault, Candidate, all_expanded, with_names, before_rounds, signatures, signature_for, signed, defined, members, candidates_then, drafts_then, functions_then, functions_read}
-use Rattle.model_made.specs.Lawful.{IsWellMade, IsAdmitted, object_names, IsLawfulWorld}
+use Rattle.model_made.specs.Lawful.{IsWellMade, IsAdmitted, stobj_names, IsLawfulWorld}
 use Rattle.model_made.proofs.WorldLemmas.{EachDefinition, definition_old, definition_new, definition_is, settled}
 use Rattle.model_made.proofs.FormLemmas.{formed_of, closed_running, closed_logic}
 use Rattle.model_made.proofs.GrowthLemmas.{Brings, functions_still, closed_grown, objects_grown, made_grown, grows}
@@ -91,7 +91,7 @@ module _ (w : World) (l : IsLawfulWorld w) (cs : List Candidate) (n : AreNew w (
   own_call new same (cores.Mv parts) h = tt
   own_call new same (cores.MvLet names bound body) h = tt
   own_call new same (cores.StobjLet names bound vars producer consumer) h = tt
-  own_call new same (cores.WithLocal object names producer body) h = tt
+  own_call new same (cores.WithLocal stobj names producer body) h = tt
   own_call new same (cores.MustBeEqual logic exec) h = tt
   own_call new same (cores.Call f actuals) h = sym (same f) ∙ h
 
@@ -170,7 +170,7 @@ module _ (w : World) (l : IsLawfulWorld w) (cs : List Candidate) (n : AreNew w (
         let both = neither_fault (member_fault ruling k d.member) (clique_fault ruling (k + 1) (members ds)) e in
         no_fault_in ds (k + 1) both.1 c i
 
-    object_stands : (x : ℕ) → is_object_name ruling x ≡ true → StandsIn after x
+    object_stands : (x : ℕ) → is_stobj_name ruling x ≡ true → StandsIn after x
     object_stands x e = go (class_of w x) refl
       where
         same : class_of ruling x ≡ class_of w x
@@ -282,12 +282,12 @@ module _ (w : World) (l : IsLawfulWorld w) (cs : List Candidate) (n : AreNew w (
 
 -- ---- the event
 
--- with these definitions the world is lawful, and none of them is an object
+-- with these definitions the world is lawful, and none of them is a stobj
 pub record LawfulWith (w new : World) : Type 0 where
   pub lawful : IsLawfulWorld (w ++ new)
-  pub no_objects : object_names new ≡ []
+  pub no_objects : stobj_names new ≡ []
 
-no_object : (known : List (ℕ × Signature)) (cs : List Candidate) → object_names (map (defined known) cs) ≡ []
+no_object : (known : List (ℕ × Signature)) (cs : List Candidate) → stobj_names (map (defined known) cs) ≡ []
 no_object known [] = refl
 no_object known (c ∷ cs) = no_object known cs
 

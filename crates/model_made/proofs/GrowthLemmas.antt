@@ -6,8 +6,8 @@ use Rattle.model_terms.specs.Cores.{Core, Cores, Reached, reached, Var, Const, I
 use Rattle.model_terms.specs.Worlds.{World, Definition, Descriptor, Shape, Field, GeneratedFunction, definition, Primitive, Defined, Macro, Constant, Concrete, Generated, Abstract, OfAbstract, Named, Signed}
 use Rattle.model_terms.specs.Worlds as worlds
 use Rattle.model_terms.specs.Classes.{class_in, class_of, same_class, congruent}
-use Rattle.model_terms.specs.Children.{ChildAccessor, accessor_to, accessor_in, child_accessor, held_in, descriptor_in}
-use Rattle.model_stobjs.specs.Objects.{held_object, most_nested}
+use Rattle.model_terms.specs.Accessors.{ChildAccessor, accessor_to, accessor_in, child_accessor, held_in, descriptor_in}
+use Rattle.model_stobjs.specs.Descriptors.{held_stobj}
 use Rattle.model_eval_laws.specs.Agreement.{ReachedStands, Closed, AllClosed, AllReached, ShapeStands, FieldsStand, ClosedDefinition, StandsIn, IsClosedWorld}
 use Rattle.model_accepted.specs.Threaded.{layout_of, Reaches, Suits}
 use Rattle.model_lawful.specs.Growth.{Becomes, HasLawfulStobjs}
@@ -19,9 +19,10 @@ use Rattle.model_expansion.specs.Expansion.{arity_of}
 use Rattle.model_expansion_forms.specs.Nodes.{IsOwnCall}
 use Rattle.model_expansion_forms.proofs.NodeLemmas.{each_wider}
 use Rattle.model_expansion_forms.specs.Rows.{Takes, HasRowFunctions}
-use Rattle.model_made.specs.Lawful.{IsWellMade, IsAdmitted, IsConcreteObject, IsConcreteIfAny, FieldsAreConcrete, NestsIfAny, FieldsNest, IsLawfulWorld}
+use Rattle.model_made.specs.Lawful.{IsWellMade, IsAdmitted, IsConcreteStobj, IsConcreteIfAny, FieldsAreConcrete, NestsIfAny, FieldsNest, IsLawfulWorld}
 use Rattle.model_made.proofs.NestingLemmas.{concrete_at, nesting_still}
 use Rattle.model_made.proofs.WorldLemmas.{definition_old, definition_is, becomes_more}
+use Rattle.model_eval.specs.StobjLayouts.{most_nested}
 
 -- ---- what stands, stands where more stands
 
@@ -39,7 +40,7 @@ module _ (P Q : ℕ → Type 0) (h : (x : ℕ) → P x → Q x) where
     closed_wider (Mv parts) k = all_closed_wider parts k
     closed_wider (MvLet names form body) k = (closed_wider form k.0, closed_wider body k.1)
     closed_wider (StobjLet names forms vars producer consumer) k = (all_reached_wider forms k.0, closed_wider producer k.1, closed_wider consumer k.2)
-    closed_wider (WithLocal object names producer body) k = (h object k.0, closed_wider producer k.1, closed_wider body k.2)
+    closed_wider (WithLocal stobj names producer body) k = (h stobj k.0, closed_wider producer k.1, closed_wider body k.2)
     closed_wider (MustBeEqual logic exec) k = closed_wider logic k
     closed_wider (Call f actuals) k = (h f k.0, all_closed_wider actuals k.1)
 
@@ -55,8 +56,8 @@ module _ (P Q : ℕ → Type 0) (h : (x : ℕ) → P x → Q x) where
   shape_wider (worlds.Scalar written initial) k = tt
   shape_wider (worlds.Array written initial length resizable) k = tt
   shape_wider (worlds.Hash test) k = tt
-  shape_wider (worlds.Child object) k = h object k
-  shape_wider (worlds.Children object length) k = h object k
+  shape_wider (worlds.Child stobj) k = h stobj k
+  shape_wider (worlds.Children stobj length) k = h stobj k
 
   fields_wider : (fs : List Field) → FieldsStand P fs → FieldsStand Q fs
   fields_wider [] k = tt
@@ -68,7 +69,7 @@ module _ (P Q : ℕ → Type 0) (h : (x : ℕ) → P x → Q x) where
   definition_wider (Macro name formals body) k = tt
   definition_wider (Constant name value) k = tt
   definition_wider (Concrete d class) k = fields_wider d.fields k
-  definition_wider (Generated g) k = h g.object k
+  definition_wider (Generated g) k = h g.stobj k
   definition_wider (Abstract d) k = h d.foundation k
   definition_wider (OfAbstract f) k = (closed_wider f.guard k.0, h f.exec k.1)
   definition_wider (Named name formals) k = tt
@@ -119,7 +120,7 @@ module _ (w new : World) (l : IsLawfulWorld w) where
   own_call_still (Mv parts) h = tt
   own_call_still (MvLet names bound body) h = tt
   own_call_still (StobjLet names bound vars producer consumer) h = tt
-  own_call_still (WithLocal object names producer body) h = tt
+  own_call_still (WithLocal stobj names producer body) h = tt
   own_call_still (MustBeEqual logic exec) h = tt
   own_call_still (Call f actuals) h = takes_still f (count actuals) h
 
@@ -131,20 +132,20 @@ module _ (w new : World) (l : IsLawfulWorld w) where
   well_made_still (Concrete d class) h = tt
   well_made_still (Generated g) h = h
   well_made_still (Abstract d) h = tt
-  well_made_still (OfAbstract f) h = (h.0, h.1, (h.2.0, definition_old w new f.object (Abstract h.2.0) h.2.1), h.3)
+  well_made_still (OfAbstract f) h = (h.0, h.1, (h.2.0, definition_old w new f.stobj (Abstract h.2.0) h.2.1), h.3)
   well_made_still (Named name formals) h = h
   well_made_still (Signed name formals signature executable) h = h
 
-  pub concrete_still : (x : ℕ) → IsConcreteObject w x → IsConcreteObject grown x
+  pub concrete_still : (x : ℕ) → IsConcreteStobj w x → IsConcreteStobj grown x
   concrete_still x h = go (definition w x) refl h.1
     where
-      go : (d : Option Definition) → definition w x ≡ d → option_and_then descriptor_in d ≡ Some h.0 → IsConcreteObject grown x
+      go : (d : Option Definition) → definition w x ≡ d → option_and_then descriptor_in d ≡ Some h.0 → IsConcreteStobj grown x
       go None e f = cc
       go (Some d) e f = (h.0, ap (option_and_then descriptor_in) (definition_old w new x d e) ∙ f)
 
   pub fields_still : (fs : List Field) → FieldsAreConcrete w fs → FieldsAreConcrete grown fs
   fields_still [] h = tt
-  fields_still (f ∷ fs) h = (go (held_object f.shape) h.0, fields_still fs h.1)
+  fields_still (f ∷ fs) h = (go (held_stobj f.shape) h.0, fields_still fs h.1)
     where
       go : (v : Option ℕ) → IsConcreteIfAny w v → IsConcreteIfAny grown v
       go None k = tt
@@ -292,7 +293,7 @@ module _ (w new : World) (l : IsLawfulWorld w) where
 
     nest_still : (fs : List Field) → FieldsAreConcrete w fs → FieldsNest w fs → FieldsNest grown fs
     nest_still [] h k = tt
-    nest_still (f ∷ fs) h k = (go (held_object f.shape) h.0 k.0, nest_still fs h.1 k.1)
+    nest_still (f ∷ fs) h k = (go (held_stobj f.shape) h.0 k.0, nest_still fs h.1 k.1)
       where
         go : (v : Option ℕ) → IsConcreteIfAny w v → NestsIfAny w v → NestsIfAny grown v
         go None i n = tt

@@ -38,8 +38,8 @@ module _ (w : World) where
     renamed_own (MvLet names bound body) r h = (plain w _ tt tt, renamed_own bound r h.1, renamed_own body (without_names names r) h.2)
     renamed_own (StobjLet names bound vars producer consumer) r h =
         (plain w _ tt (count_renamed bound r ∙ h.0.forms), all_renamed bound r h.1, renamed_own producer (without_names names r) h.2, renamed_own consumer (without_names (names ++ vars) r) h.3)
-    renamed_own (WithLocal object names producer body) r h =
-        (plain w _ tt tt, renamed_own producer (without_names (object ∷ []) r) h.1, renamed_own body (without_names (object ∷ names) r) h.2)
+    renamed_own (WithLocal stobj names producer body) r h =
+        (plain w _ tt tt, renamed_own producer (without_names (stobj ∷ []) r) h.1, renamed_own body (without_names (stobj ∷ names) r) h.2)
     renamed_own (MustBeEqual logic exec) r h = (plain w _ tt tt, renamed_own logic r h.1, renamed_own exec r h.2)
     renamed_own (Call f actuals) r h = (plain w _ (h.0.own ∙ ap (λ (n : ℕ). Some n) (sym (count_renamed actuals r))) tt, all_renamed actuals r h.1)
 
@@ -59,7 +59,7 @@ module _ (w new : World) (r : Renaming) (takes : (f n : ℕ) → Takes w f n →
     with_own (Mv parts) h = (plain new _ tt tt, all_with parts h.1)
     with_own (MvLet names bound body) h = (plain new _ tt tt, with_own bound h.1, with_own body h.2)
     with_own (StobjLet names bound vars producer consumer) h = (plain new _ tt (count_with bound r ∙ h.0.forms), all_with bound h.1, with_own producer h.2, with_own consumer h.3)
-    with_own (WithLocal object names producer body) h = (plain new _ tt tt, with_own producer h.1, with_own body h.2)
+    with_own (WithLocal stobj names producer body) h = (plain new _ tt tt, with_own producer h.1, with_own body h.2)
     with_own (MustBeEqual logic exec) h = (plain new _ tt tt, with_own logic h.1, with_own exec h.2)
     with_own (Call f actuals) h = (plain new _ (takes f (count actuals) h.0.own ∙ ap (λ (n : ℕ). Some n) (sym (count_with actuals r))) tt, all_with actuals h.1)
 

@@ -2,7 +2,7 @@
 use Rattle.std.proofs.Common.{◌++◌}
 use Rattle.model_terms.specs.Worlds.{World, Descriptor, AbstractDescriptor}
 use Rattle.model_stobjs.specs.Answers.{EventResult, Grants, Refuses, Halts}
-use Rattle.model_stobjs.specs.Objects.{descriptor_read}
+use Rattle.model_stobjs.specs.Descriptors.{descriptor_read}
 use Rattle.model_stobjs.specs.Abstracts.{abstract_read}
 use Rattle.model_events.specs.Macros.{macro_read}
 use Rattle.model_events.specs.Constants.{constant_read}
@@ -43,6 +43,6 @@ definitions_stay_lawful = record {
   macros = λ x l d p. plain_stays x.world l (macro_read x d p) (macro_plain x d p);
   constants = λ x l d p. plain_stays x.world l (constant_read x d p) (constant_plain x d p);
   functions = λ x l head d p. granted_stays x.world (functions_read x head d p) (functions_stay x l head d p);
-  abstract_objects = λ w l packages d p. abstract_stays w l (abstract_read w packages d p) (abstract_accepted w packages d p);
+  abstract_stobjs = λ w l packages d p. abstract_stays w l (abstract_read w packages d p) (abstract_accepted w packages d p);
   stobjs = λ w l packages d p. object_stays w l (descriptor_read w packages d p) (descriptor_new w packages d p);
 }

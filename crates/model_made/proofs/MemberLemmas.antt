@@ -134,9 +134,9 @@ named_member (n ∷ ns) (t ∷ sigs) x s e = go (nat_eq x n.name) refl e (named_
     go true f g later = (n, inl refl, sym (eqb-true x n.name f))
     go false f g later = let h = later g in (h.0, inr h.1, h.2)
 
--- ---- kinds of formals are those of the objects that stand
+-- ---- kinds of formals are those of the stobjs that stand
 
--- definitions of which none is an object
+-- definitions of which none is a stobj
 pub class_more : (w new : World) → EachDefinition (λ d. class_in d ≡ None) new → (x : ℕ) → class_of (w ++ new) x ≡ class_of w x
 class_more w new plain x = go (definition w x) refl
   where

@@ -1,4 +1,4 @@
--- Layouts of concrete objects: one that nests less than so many is the same at each depth from there on.
+-- Layouts of concrete stobjs: one that nests less than so many is the same at each depth from there on.
 use Rattle.std.proofs.Common.{◌≡◌, ℕ, zero, suc, ◌+◌, ◌<◌, ◌≤◌, List, [], ◌∷◌, map, Option, Some, None, refl, sym, ap, ◌∙◌, subst, arith, inl, inr}
 use Rattle.std.specs.Prelude.{option_and_then}
 use Rattle.std.specs.Option.{option_map_or}
@@ -7,17 +7,17 @@ use Rattle.model_lists.specs.Layouts.{Layout}
 use Rattle.model_lists.specs.Layouts as layout
 use Rattle.model_terms.specs.Worlds.{World, Definition, Descriptor, Shape, Field, definition, Primitive, Defined, Macro, Constant, Concrete, Generated, Abstract, OfAbstract, Named, Signed}
 use Rattle.model_terms.specs.Worlds as worlds
-use Rattle.model_terms.specs.Children.{descriptor_in, descriptor_of}
-use Rattle.model_eval.specs.Worlds.{layout_within, defined_layout, fields_layout, shape_layout}
+use Rattle.model_terms.specs.Accessors.{descriptor_in, descriptor_of}
+use Rattle.model_eval.specs.StobjLayouts.{layout_within, defined_layout, fields_layout, shape_layout}
 use Rattle.model_eval_laws.specs.Agreement.{ShapeStands, FieldsStand, ClosedDefinition, StandsIn, IsClosedWorld}
-use Rattle.model_stobjs.specs.Objects.{held_object, most_of, field_nesting, nesting_by, nesting_within}
-use Rattle.model_made.specs.Lawful.{IsConcreteObject, IsConcreteIfAny, FieldsAreConcrete}
+use Rattle.model_stobjs.specs.Descriptors.{held_stobj, most_of, field_nesting, nesting_by, nesting_within}
+use Rattle.model_made.specs.Lawful.{IsConcreteStobj, IsConcreteIfAny, FieldsAreConcrete}
 use Rattle.model_made.proofs.MemberLemmas.{IsIn}
 
 abbrev pub see : Object ℕ → Object ℕ
 see o = o
 
--- ---- a concrete object is a definition
+-- ---- a concrete stobj is a definition
 
 pub record IsConcreteAt (w : World) (x : ℕ) : Type 0 where
   pub descriptor : Descriptor
@@ -25,7 +25,7 @@ pub record IsConcreteAt (w : World) (x : ℕ) : Type 0 where
   pub there : definition w x ≡ Some (Concrete descriptor class)
   pub found : descriptor_of w x ≡ Some descriptor
 
-pub concrete_at : (w : World) (x : ℕ) → IsConcreteObject w x → IsConcreteAt w x
+pub concrete_at : (w : World) (x : ℕ) → IsConcreteStobj w x → IsConcreteAt w x
 concrete_at w x h = go (definition w x) refl h.1
   where
     is : {a b : Descriptor} → Some a ≡ Some b → a ≡ b
@@ -51,37 +51,37 @@ module _ (one other : ℕ → Layout ℕ) where
   same_fields [] h = refl
   same_fields (f ∷ fs) h = rw (h f (inl refl), same_fields fs (λ g i. h g (inr i))) refl
 
-  same_shape : (s : Shape) → ((x : ℕ) → held_object s ≡ Some x → one x ≡ other x) → shape_layout see one s ≡ shape_layout see other s
+  same_shape : (s : Shape) → ((x : ℕ) → held_stobj s ≡ Some x → one x ≡ other x) → shape_layout see one s ≡ shape_layout see other s
   same_shape (worlds.Scalar written initial) h = refl
   same_shape (worlds.Array written initial length resizable) h = refl
   same_shape (worlds.Hash test) h = refl
-  same_shape (worlds.Child object) h = h object refl
-  same_shape (worlds.Children object length) h = ap (layout.Children length) (h object refl)
+  same_shape (worlds.Child stobj) h = h stobj refl
+  same_shape (worlds.Children stobj length) h = ap (layout.Children length) (h stobj refl)
 
-  -- the same of fields whose objects have the property
-  pub fields_alike : (P : ℕ → Type 0) → ((x : ℕ) → P x → one x ≡ other x) → (fs : List Field) → ((f : Field) (x : ℕ) → IsIn f fs → held_object f.shape ≡ Some x → P x) → fields_layout see one fs ≡ fields_layout see other fs
+  -- the same of fields whose stobjs have the property
+  pub fields_alike : (P : ℕ → Type 0) → ((x : ℕ) → P x → one x ≡ other x) → (fs : List Field) → ((f : Field) (x : ℕ) → IsIn f fs → held_stobj f.shape ≡ Some x → P x) → fields_layout see one fs ≡ fields_layout see other fs
   fields_alike P same fs h = same_fields fs (λ f i. same_shape f.shape (λ x e. same x (h f x i e)))
 
 -- ---- one more level
 
 module _ (w : World) (children : (x class : ℕ) (d : Descriptor) → definition w x ≡ Some (Concrete d class) → FieldsAreConcrete w d.fields) where
-  below_most : (nest : ℕ → ℕ) (fs : List Field) (f : Field) (x : ℕ) → IsIn f fs → held_object f.shape ≡ Some x → nest x ≤ most_of (map (field_nesting nest) fs)
+  below_most : (nest : ℕ → ℕ) (fs : List Field) (f : Field) (x : ℕ) → IsIn f fs → held_stobj f.shape ≡ Some x → nest x ≤ most_of (map (field_nesting nest) fs)
   below_most nest [] f x i e = absurd i
   below_most nest (g ∷ fs) f x (inl same) e =
-      let here : field_nesting nest g ≡ nest x = ap (λ (v : Option ℕ). option_map_or nest v 0) (ap (λ (h : Field). held_object h.shape) (sym same) ∙ e) in
+      let here : field_nesting nest g ≡ nest x = ap (λ (v : Option ℕ). option_map_or nest v 0) (ap (λ (h : Field). held_stobj h.shape) (sym same) ∙ e) in
       omega (arith, here)
   below_most nest (g ∷ fs) f x (inr i) e = let later = below_most nest fs f x i e in omega (arith, later)
 
-  pub concrete_child : (fs : List Field) → FieldsAreConcrete w fs → (f : Field) (x : ℕ) → IsIn f fs → held_object f.shape ≡ Some x → IsConcreteObject w x
+  pub concrete_child : (fs : List Field) → FieldsAreConcrete w fs → (f : Field) (x : ℕ) → IsIn f fs → held_stobj f.shape ≡ Some x → IsConcreteStobj w x
   concrete_child [] h f x i e = absurd i
-  concrete_child (g ∷ fs) h f x (inl same) e = subst (IsConcreteIfAny w) (ap (λ (h : Field). held_object h.shape) (sym same) ∙ e) h.0
+  concrete_child (g ∷ fs) h f x (inl same) e = subst (IsConcreteIfAny w) (ap (λ (h : Field). held_stobj h.shape) (sym same) ∙ e) h.0
   concrete_child (g ∷ fs) h f x (inr i) e = concrete_child fs h.1 f x i e
 
-  -- an object that nests less than n
+  -- a stobj that nests less than n
   abbrev NestsBelow : ℕ → ℕ → Type 0
-  NestsBelow n x = IsConcreteObject w x × (nesting_within w n x < n)
+  NestsBelow n x = IsConcreteStobj w x × (nesting_within w n x < n)
 
-  pub one_deeper : (n x : ℕ) → IsConcreteObject w x → nesting_within w n x < n → layout_within see w n x ≡ layout_within see w (suc n) x
+  pub one_deeper : (n x : ℕ) → IsConcreteStobj w x → nesting_within w n x < n → layout_within see w n x ≡ layout_within see w (suc n) x
   unfolding layout_within nesting_within
   one_deeper zero x h l = absurd (let never : ⊥ = omega (arith, l) in never)
   one_deeper (suc n) x h l =
@@ -100,8 +100,8 @@ module _ (w new : World) (closed : IsClosedWorld w) (later : (x : ℕ) (d : Defi
   shape_still one other same (worlds.Scalar written initial) h = refl
   shape_still one other same (worlds.Array written initial length resizable) h = refl
   shape_still one other same (worlds.Hash test) h = refl
-  shape_still one other same (worlds.Child object) h = same object h
-  shape_still one other same (worlds.Children object length) h = ap (layout.Children length) (same object h)
+  shape_still one other same (worlds.Child stobj) h = same stobj h
+  shape_still one other same (worlds.Children stobj length) h = ap (layout.Children length) (same stobj h)
 
   fields_still : (one other : ℕ → Layout ℕ) → ((x : ℕ) → StandsIn w x → one x ≡ other x) → (fs : List Field) → FieldsStand (StandsIn w) fs → fields_layout see one fs ≡ fields_layout see other fs
   fields_still one other same [] h = refl
@@ -126,18 +126,18 @@ module _ (w new : World) (closed : IsClosedWorld w) (later : (x : ℕ) (d : Defi
       ap (defined_layout see (layout_within see new n)) (later x s.0 s.1)
       ∙ (definition_still (layout_within see new n) (layout_within see w n) (within_still n) s.0 (closed.definitions x s.0 s.1) ∙ ap (defined_layout see (layout_within see w n)) (sym s.1))
 
-  -- ---- how deep objects nest
+  -- ---- how deep stobjs nest
 
   fields_nest : (one other : ℕ → ℕ) → ((x : ℕ) → StandsIn w x → one x ≡ other x) → (fs : List Field) → FieldsStand (StandsIn w) fs → map (field_nesting one) fs ≡ map (field_nesting other) fs
   fields_nest one other same [] h = refl
   fields_nest one other same (f ∷ fs) h = rw (shape_nests f.shape h.0, fields_nest one other same fs h.1) refl
     where
-      shape_nests : (s : Shape) → ShapeStands (StandsIn w) s → option_map_or one (held_object s) 0 ≡ option_map_or other (held_object s) 0
+      shape_nests : (s : Shape) → ShapeStands (StandsIn w) s → option_map_or one (held_stobj s) 0 ≡ option_map_or other (held_stobj s) 0
       shape_nests (worlds.Scalar written initial) h = refl
       shape_nests (worlds.Array written initial length resizable) h = refl
       shape_nests (worlds.Hash test) h = refl
-      shape_nests (worlds.Child object) h = same object h
-      shape_nests (worlds.Children object length) h = same object h
+      shape_nests (worlds.Child stobj) h = same stobj h
+      shape_nests (worlds.Children stobj length) h = same stobj h
 
   definition_nests : (one other : ℕ → ℕ) → ((x : ℕ) → StandsIn w x → one x ≡ other x) → (d : Definition) → ClosedDefinition (StandsIn w) d → nesting_by one (option_and_then descriptor_in (Some d)) ≡ nesting_by other (option_and_then descriptor_in (Some d))
   definition_nests one other same (Primitive name row) h = refl
@@ -158,10 +158,10 @@ module _ (w new : World) (closed : IsClosedWorld w) (later : (x : ℕ) (d : Defi
       ap (λ (d : Option Definition). nesting_by (nesting_within new n) (option_and_then descriptor_in d)) (later x s.0 s.1)
       ∙ (definition_nests (nesting_within new n) (nesting_within w n) (nesting_still n) s.0 (closed.definitions x s.0 s.1) ∙ ap (λ (d : Option Definition). nesting_by (nesting_within w n) (option_and_then descriptor_in d)) (sym s.1))
 
--- ---- an abstract object stands one level above its foundation
+-- ---- an abstract stobj stands one level above its foundation
 
 module _ (w : World) (children : (x class : ℕ) (d : Descriptor) → definition w x ≡ Some (Concrete d class) → FieldsAreConcrete w d.fields) where
-  pub deep_enough : (n x : ℕ) → IsConcreteObject w x → nesting_within w (suc n) x ≤ n → layout_within see w n x ≡ layout_within see w (suc n) x
+  pub deep_enough : (n x : ℕ) → IsConcreteStobj w x → nesting_within w (suc n) x ≤ n → layout_within see w n x ≡ layout_within see w (suc n) x
   unfolding layout_within nesting_within
   deep_enough zero x h l =
       let at = concrete_at w x h in
@@ -171,7 +171,7 @@ module _ (w : World) (children : (x class : ℕ) (d : Descriptor) → definition
       let at = concrete_at w x h in
       let here : nesting_by (nesting_within w (suc n)) (descriptor_of w x) ≡ most_of (map (field_nesting (nesting_within w (suc n))) at.descriptor.fields) + 1 = ap (nesting_by (nesting_within w (suc n))) at.found in
       let fields : fields_layout see (layout_within see w n) at.descriptor.fields ≡ fields_layout see (layout_within see w (suc n)) at.descriptor.fields
-      = fields_alike (layout_within see w n) (layout_within see w (suc n)) (λ y. IsConcreteObject w y × (nesting_within w (suc n) y ≤ n)) (λ y k. deep_enough n y k.0 k.1) at.descriptor.fields (λ f y i e.
+      = fields_alike (layout_within see w n) (layout_within see w (suc n)) (λ y. IsConcreteStobj w y × (nesting_within w (suc n) y ≤ n)) (λ y k. deep_enough n y k.0 k.1) at.descriptor.fields (λ f y i e.
       let below : nesting_within w (suc n) y ≤ most_of (map (field_nesting (nesting_within w (suc n))) at.descriptor.fields) = below_most w children (nesting_within w (suc n)) at.descriptor.fields f y i e in
       (concrete_child w children at.descriptor.fields (children x at.class at.descriptor at.there) f y i e, omega (arith, below, here, l))) in
       ap (defined_layout see (layout_within see w n)) at.there ∙ (fields ∙ sym (ap (defined_layout see (layout_within see w (suc n))) at.there))

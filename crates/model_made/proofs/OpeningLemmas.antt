@@ -4,14 +4,14 @@ use Rattle.std.specs.Prelude.{option_and_then}
 use Rattle.model_prims.specs.Rows.{Row, table}
 use Rattle.model_terms.specs.Worlds.{World, Definition, definition, Primitive, Defined, Macro, Constant, Concrete, Generated, Abstract, OfAbstract, Named, Signed}
 use Rattle.model_terms.specs.Classes.{class_in, class_of, same_class, congruent}
-use Rattle.model_terms.specs.Children.{accessor_in, child_accessor}
+use Rattle.model_terms.specs.Accessors.{accessor_in, child_accessor}
 use Rattle.model_eval_laws.specs.Agreement.{ClosedDefinition, StandsIn}
 use Rattle.model_accepted.specs.Threaded.{layout_of}
 use Rattle.model_lawful.specs.Lawful.{IsReady}
 use Rattle.model_accepted.proofs.AcceptLemmas.{false_true}
 use Rattle.model_expansion_forms.specs.Rows.{HasRowFunctions}
 use Rattle.model_books.specs.Opening.{primitive_numbers, primitives_named, opening_constants, opening_world, opening_session}
-use Rattle.model_made.specs.Lawful.{IsWellMade, IsAdmitted, object_names, IsLawfulWorld, IsLawfulSession}
+use Rattle.model_made.specs.Lawful.{IsWellMade, IsAdmitted, stobj_names, IsLawfulWorld, IsLawfulSession}
 use Rattle.model_made.specs.Laws.{OpeningIsLawful}
 use Rattle.model_made.proofs.WorldLemmas.{EachDefinition, each_found}
 
@@ -104,7 +104,7 @@ plain_accessor w (OfAbstract f) h = refl
 plain_accessor w (Named name formals) h = refl
 plain_accessor w (Signed name formals signature executable) h = refl
 
-pub plain_names : (w : World) → EachDefinition IsPlain w → object_names w ≡ []
+pub plain_names : (w : World) → EachDefinition IsPlain w → stobj_names w ≡ []
 plain_names [] h = refl
 plain_names (Primitive name row ∷ w) h = plain_names w h.1
 plain_names (Constant name value ∷ w) h = plain_names w h.1

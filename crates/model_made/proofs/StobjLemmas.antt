@@ -1,4 +1,4 @@
--- The definition of a concrete object keeps a world lawful.
+-- The definition of a concrete stobj keeps a world lawful.
 use Rattle.std.proofs.Common.{◌≡◌, ◌≢◌, ℕ, zero, suc, ◌+◌, ◌<◌, List, [], ◌∷◌, ◌++◌, map, Bool, true, false, Option, Some, None, refl, sym, ap, ◌∙◌, subst, arith, inl, inr}
 use Rattle.std.specs.Prelude.{◌⊎◌, nat_eq, unwrap_or, slice_get, option_map, option_and_then, if◌then◌else◌}
 use Rattle.std.proofs.lemmas.Bool.{eqb-true}
@@ -9,19 +9,19 @@ use Rattle.model_terms.specs.declared.role.Role.TheVariants as role
 use Rattle.model_terms.specs.Worlds.{World, Out, Ordinary, Stobj, Signature, Shape, Scalar, Array, Hash, Child, Children, Field, Descriptor, GeneratedFunction, Definition, definition, Concrete, Generated}
 use Rattle.model_terms.specs.Classes as classes
 use Rattle.model_terms.specs.Classes.{class_in, class_of}
-use Rattle.model_terms.specs.Children.{Holds, One, Many, ChildAccessor, accessor_to, accessor_in, descriptor_in, descriptor_of, held_by, held_in, is_kept_back, is_internal}
-use Rattle.model_eval.specs.Worlds.{layout_within, defined_layout, fields_layout, shape_layout}
-use Rattle.model_eval.specs.Children as eval
+use Rattle.model_terms.specs.Accessors.{HeldStobjs, One, Many, ChildAccessor, accessor_to, accessor_in, descriptor_in, descriptor_of, held_by, held_in, is_kept_back, is_internal}
+use Rattle.model_eval.specs.StobjLayouts.{layout_within, defined_layout, fields_layout, shape_layout, most_nested}
+use Rattle.model_eval.specs.Lending as eval
 use Rattle.model_eval_laws.specs.Agreement.{ShapeStands, FieldsStand, ClosedDefinition, StandsIn}
-use Rattle.model_eval_alike.specs.Standing.{SuitsRole}
+use Rattle.model_eval_alike.specs.FunctionLaws.{SuitsRole}
 use Rattle.model_eval_laws.proofs.Lists.{same_number}
 use Rattle.model_accepted.specs.Threaded.{layout_of, IsField, IsHeld, Reaches, role_outs, IsMade}
 use Rattle.model_lawful.specs.Lawful.{IsReady}
 use Rattle.model_accepted.proofs.AcceptLemmas.{true_false}
-use Rattle.model_stobjs.specs.Objects.{held_object, most_nested, nesting_within, mismatch_from}
+use Rattle.model_stobjs.specs.Descriptors.{held_stobj, nesting_within, mismatch_from}
 use Rattle.model_stobjs.specs.Entries.{Task, field_tasks, function_of, named_tasks, field_functions, recognizer_task, creator_task, generated_functions, class_for, stobj_entries}
 use Rattle.model_expansion.specs.Faults.{CongruenceMismatch}
-use Rattle.model_made.specs.Lawful.{IsWellMade, IsAdmitted, IsConcreteObject, IsConcreteIfAny, FieldsAreConcrete, HasObjectOrFew, NestsIfAny, FieldsNest, object_names, IsLawfulWorld}
+use Rattle.model_made.specs.Lawful.{IsWellMade, IsAdmitted, IsConcreteStobj, IsConcreteIfAny, FieldsAreConcrete, HasStobjOrFew, NestsIfAny, FieldsNest, stobj_names, IsLawfulWorld}
 use Rattle.model_made.proofs.WorldLemmas.{definition_old, definition_new}
 use Rattle.model_made.proofs.GrowthLemmas.{Brings, stands_still, layout_still, concrete_still, grows}
 use Rattle.model_made.proofs.EventLemmas.{none_some}
@@ -31,75 +31,75 @@ use Rattle.model_made.proofs.DescriptorLemmas.{IsNested, IsGoodShape, FieldsGood
 
 -- ---- the functions of a field
 
--- what holds of a task, where the function may be called: its outputs, its only object, and the layout of its field
-pub record IsFit (object : ℕ) (child : ℕ → Layout ℕ) (shape : Shape) (t : Task) : Type 0 where
-  pub outs : t.1.outs ≡ role_outs t.0 object
-  pub only : t.1.outs ≡ Stobj object ∷ [] → classes.stobjs t.1.ins ≡ object ∷ []
+-- what holds of a task, where the function may be called: its outputs, its only stobj, and the layout of its field
+pub record IsFit (stobj : ℕ) (child : ℕ → Layout ℕ) (shape : Shape) (t : Task) : Type 0 where
+  pub outs : t.1.outs ≡ role_outs t.0 stobj
+  pub only : t.1.outs ≡ Stobj stobj ∷ [] → classes.stobjs t.1.ins ≡ stobj ∷ []
   pub suits : SuitsRole t.0 (shape_layout see child shape)
 
 abbrev pub FitsIfCalled : ℕ → (ℕ → Layout ℕ) → Shape → Task → Type 0
-FitsIfCalled object child shape t = is_kept_back t.0 (held_by shape) ≡ false → IsFit object child shape t
+FitsIfCalled stobj child shape t = is_kept_back t.0 (held_by shape) ≡ false → IsFit stobj child shape t
 
 abbrev AllFit : ℕ → (ℕ → Layout ℕ) → Shape → List Task → Type 0
-AllFit object child shape [] = Unit {0}
-AllFit object child shape (t ∷ ts) = FitsIfCalled object child shape t × AllFit object child shape ts
+AllFit stobj child shape [] = Unit {0}
+AllFit stobj child shape (t ∷ ts) = FitsIfCalled stobj child shape t × AllFit stobj child shape ts
 
-module _ (object : ℕ) (child : ℕ → Layout ℕ) where
-  reads : (shape : Shape) (t : Task) → t.1.outs ≡ role_outs t.0 object → (t.1.outs ≡ Stobj object ∷ [] → ⊥) → SuitsRole t.0 (shape_layout see child shape) → FitsIfCalled object child shape t
+module _ (stobj : ℕ) (child : ℕ → Layout ℕ) where
+  reads : (shape : Shape) (t : Task) → t.1.outs ≡ role_outs t.0 stobj → (t.1.outs ≡ Stobj stobj ∷ [] → ⊥) → SuitsRole t.0 (shape_layout see child shape) → FitsIfCalled stobj child shape t
   reads shape t outs never suits kept = record { outs = outs; only = λ e. absurd (never e); suits = suits }
 
-  writes : (shape : Shape) (t : Task) → t.1.outs ≡ role_outs t.0 object → classes.stobjs t.1.ins ≡ object ∷ [] → SuitsRole t.0 (shape_layout see child shape) → FitsIfCalled object child shape t
+  writes : (shape : Shape) (t : Task) → t.1.outs ≡ role_outs t.0 stobj → classes.stobjs t.1.ins ≡ stobj ∷ [] → SuitsRole t.0 (shape_layout see child shape) → FitsIfCalled stobj child shape t
   writes shape t outs only suits kept = record { outs = outs; only = λ e. only; suits = suits }
 
-  ordinary_differs : (ks : List Out) → (Ordinary ∷ ks ≡ Stobj object ∷ []) → ⊥
+  ordinary_differs : (ks : List Out) → (Ordinary ∷ ks ≡ Stobj stobj ∷ []) → ⊥
   ordinary_differs ks e = cc
 
-  all_fit : (shape : Shape) → AllFit object child shape (field_tasks object shape)
+  all_fit : (shape : Shape) → AllFit stobj child shape (field_tasks stobj shape)
   all_fit (Scalar t o) = let s = Scalar t o in (reads s _ refl (ordinary_differs []) tt, (reads s _ refl (ordinary_differs []) tt, (writes s _ refl refl tt, tt)))
   all_fit (Array t o n resizable) = let s = Array t o n resizable in (reads s _ refl (ordinary_differs []) tt, (reads s _ refl (ordinary_differs []) tt, (writes s _ refl refl tt, (reads s _ refl (ordinary_differs []) tt, (writes s _ refl refl tt, tt)))))
   all_fit (Hash test) = let s = Hash test in (reads s _ refl (ordinary_differs []) tt, (reads s _ refl (ordinary_differs []) tt, (reads s _ refl (ordinary_differs []) tt, (reads s _ refl (ordinary_differs (Ordinary ∷ [])) tt, (writes s _ refl refl tt, (writes s _ refl refl tt, (reads s _ refl (ordinary_differs []) tt, (writes s _ refl refl tt, tt))))))))
   all_fit (Child x) = let s = Child x in (reads s _ refl (ordinary_differs []) tt, ((λ kept. true_false kept), ((λ kept. true_false kept), tt)))
   all_fit (Children x n) = let s = Children x n in (reads s _ refl (ordinary_differs []) tt, (reads s _ refl (ordinary_differs []) tt, (writes s _ refl refl tt, ((λ kept. true_false kept), ((λ kept. true_false kept), tt)))))
 
-  fit_in : (shape : Shape) (ts : List Task) → AllFit object child shape ts → (t : Task) → IsIn t ts → FitsIfCalled object child shape t
+  fit_in : (shape : Shape) (ts : List Task) → AllFit stobj child shape ts → (t : Task) → IsIn t ts → FitsIfCalled stobj child shape t
   fit_in shape [] h t i = absurd i
-  fit_in shape (u ∷ ts) h t (inl same) = subst (FitsIfCalled object child shape) (sym same) h.0
+  fit_in shape (u ∷ ts) h t (inl same) = subst (FitsIfCalled stobj child shape) (sym same) h.0
   fit_in shape (u ∷ ts) h t (inr i) = fit_in shape ts h.1 t i
 
 -- ---- inputs of tasks
 
 abbrev AllFew : List Task → Type 0
 AllFew [] = Unit {0}
-AllFew (t ∷ ts) = HasObjectOrFew t.1.ins × AllFew ts
+AllFew (t ∷ ts) = HasStobjOrFew t.1.ins × AllFew ts
 
 some_object : (x : ℕ) (xs : List ℕ) → (x ∷ xs) ≢ []
 some_object x xs e = cc
 
-all_few : (object : ℕ) (shape : Shape) → AllFew (field_tasks object shape)
-all_few object (Scalar t o) = (inl (omega arith), (inl (omega arith), (inr (some_object object []), tt)))
-all_few object (Array t o n resizable) = (inl (omega arith), (inl (omega arith), (inr (some_object object []), (inr (some_object object []), (inr (some_object object []), tt)))))
-all_few object (Hash test) = (inl (omega arith), (inr (some_object object []), (inr (some_object object []), (inr (some_object object []), (inr (some_object object []), (inr (some_object object []), (inl (omega arith), (inl (omega arith), tt))))))))
-all_few object (Child x) = (inl (omega arith), (inl (omega arith), (inr (some_object x (object ∷ [])), tt)))
-all_few object (Children x n) = (inl (omega arith), (inl (omega arith), (inr (some_object object []), (inr (some_object object []), (inr (some_object x (object ∷ [])), tt)))))
+all_few : (stobj : ℕ) (shape : Shape) → AllFew (field_tasks stobj shape)
+all_few stobj (Scalar t o) = (inl (omega arith), (inl (omega arith), (inr (some_object stobj []), tt)))
+all_few stobj (Array t o n resizable) = (inl (omega arith), (inl (omega arith), (inr (some_object stobj []), (inr (some_object stobj []), (inr (some_object stobj []), tt)))))
+all_few stobj (Hash test) = (inl (omega arith), (inr (some_object stobj []), (inr (some_object stobj []), (inr (some_object stobj []), (inr (some_object stobj []), (inr (some_object stobj []), (inl (omega arith), (inl (omega arith), tt))))))))
+all_few stobj (Child x) = (inl (omega arith), (inl (omega arith), (inr (some_object x (stobj ∷ [])), tt)))
+all_few stobj (Children x n) = (inl (omega arith), (inl (omega arith), (inr (some_object stobj []), (inr (some_object stobj []), (inr (some_object x (stobj ∷ [])), tt)))))
 
-few_in : (ts : List Task) → AllFew ts → (t : Task) → IsIn t ts → HasObjectOrFew t.1.ins
+few_in : (ts : List Task) → AllFew ts → (t : Task) → IsIn t ts → HasStobjOrFew t.1.ins
 few_in [] h t i = absurd i
-few_in (u ∷ ts) h t (inl same) = subst (λ (q : Task). HasObjectOrFew q.1.ins) (sym same) h.0
+few_in (u ∷ ts) h t (inl same) = subst (λ (q : Task). HasStobjOrFew q.1.ins) (sym same) h.0
 few_in (u ∷ ts) h t (inr i) = few_in ts h.1 t i
 
--- a function of a field of an object
+-- a function of a field of a stobj
 pub record IsOfField (d : Descriptor) (g : GeneratedFunction) : Type 0 where
   pub number : ℕ
   pub field : Field
   pub there : slice_get d.fields number ≡ Some field
   pub task : Task
   pub listed : IsIn task (field_tasks d.name field.shape)
-  pub object : g.object ≡ d.name
+  pub stobj : g.stobj ≡ d.name
   pub of_field : g.field ≡ Some number
   pub does : g.role ≡ task.0
   pub signed : g.signature ≡ task.1
 
--- a function of an object: its recognizer, its creator, or one of a field
+-- a function of a stobj: its recognizer, its creator, or one of a field
 pub data IsOfObject (d : Descriptor) (g : GeneratedFunction) : Type 0 where
   recognizing : g ≡ function_of d.name None d.recognizer (recognizer_task d.name) → IsOfObject d g
   creating : g ≡ function_of d.name None d.creator (creator_task d.name) → IsOfObject d g
@@ -116,7 +116,7 @@ module _ (d : Descriptor) where
     there = e;
     task = t;
     listed = h t (inl refl);
-    object = ap (λ (q : GeneratedFunction). q.object) same;
+    stobj = ap (λ (q : GeneratedFunction). q.stobj) same;
     of_field = ap (λ (q : GeneratedFunction). q.field) same;
     does = ap (λ (q : GeneratedFunction). q.role) same;
     signed = ap (λ (q : GeneratedFunction). q.signature) same;
@@ -197,24 +197,24 @@ fields_of_concrete : (w : World) (x : ℕ) (c : Descriptor) (class : ℕ) → de
 unfolding layout_within
 fields_of_concrete w x c class e = ap (defined_layout see (layout_within see w 64)) e
 
--- ---- what the object brings
+-- ---- what the stobj brings
 
 module _ (w : World) (l : IsLawfulWorld w) (d : Descriptor) (new : IsNew w d) where
   abbrev pub with_object : World
   with_object = w ++ stobj_entries w d
 
-  object_there : definition with_object d.name ≡ Some (Concrete d (class_for w d))
-  object_there =
+  stobj_there : definition with_object d.name ≡ Some (Concrete d (class_for w d))
+  stobj_there =
       definition_new w (stobj_entries w d) d.name new.free
       ∙ ap (λ (b : Bool). if b then Some (Concrete d (class_for w d)) else definition (map Generated (generated_functions d)) d.name) (same_number d.name)
 
   object_stands : StandsIn with_object d.name
-  object_stands = (Concrete d (class_for w d), object_there)
+  object_stands = (Concrete d (class_for w d), stobj_there)
 
   object_fields : layout_of with_object d.name ≡ fields_layout see (layout_within see with_object 64) d.fields
-  object_fields = fields_of_concrete with_object d.name d (class_for w d) object_there
+  object_fields = fields_of_concrete with_object d.name d (class_for w d) stobj_there
 
-  -- a new definition is the object or one of its functions
+  -- a new definition is the stobj or one of its functions
   abbrev IsNewDefinition : ℕ → Definition → Type 0
   IsNewDefinition x c = ((x ≡ d.name) × (c ≡ Concrete d (class_for w d))) ⊎ ((g : GeneratedFunction) × IsOfObject d g × (c ≡ Generated g))
 
@@ -230,7 +230,7 @@ module _ (w : World) (l : IsLawfulWorld w) (d : Descriptor) (new : IsNew w d) wh
 
   -- ---- children
 
-  shape_concrete : (s : Shape) → IsGoodShape w s → IsConcreteIfAny with_object (held_object s)
+  shape_concrete : (s : Shape) → IsGoodShape w s → IsConcreteIfAny with_object (held_stobj s)
   shape_concrete (Scalar written initial) h = tt
   shape_concrete (Array written initial length resizable) h = tt
   shape_concrete (Hash test) h = tt
@@ -246,7 +246,7 @@ module _ (w : World) (l : IsLawfulWorld w) (d : Descriptor) (new : IsNew w d) wh
       let at = concrete_at w x h.concrete in
       subst (λ (m : ℕ). m < most_nested) (sym (nesting_still w with_object l.lawful.closed (definition_old w (stobj_entries w d)) most_nested x (Concrete at.descriptor at.class, at.there))) h.nests
 
-  shape_nests : (s : Shape) → IsGoodShape w s → NestsIfAny with_object (held_object s)
+  shape_nests : (s : Shape) → IsGoodShape w s → NestsIfAny with_object (held_stobj s)
   shape_nests (Scalar written initial) h = tt
   shape_nests (Array written initial length resizable) h = tt
   shape_nests (Hash test) h = tt
@@ -257,7 +257,7 @@ module _ (w : World) (l : IsLawfulWorld w) (d : Descriptor) (new : IsNew w d) wh
   fields_nest [] h = tt
   fields_nest (f ∷ fs) h = (shape_nests f.shape h.0, fields_nest fs h.1)
 
-  concrete_stands : (x : ℕ) → IsConcreteObject w x → StandsIn with_object x
+  concrete_stands : (x : ℕ) → IsConcreteStobj w x → StandsIn with_object x
   concrete_stands x h = let at = concrete_at w x h in (Concrete at.descriptor at.class, definition_old w (stobj_entries w d) x (Concrete at.descriptor at.class) at.there)
 
   fields_stand : (fs : List Field) → FieldsGood w fs → FieldsStand (StandsIn with_object) fs
@@ -283,8 +283,8 @@ module _ (w : World) (l : IsLawfulWorld w) (d : Descriptor) (new : IsNew w d) wh
 
   held_here : (g : GeneratedFunction) (f : IsOfField d g) → held_in with_object g ≡ held_by f.field.shape
   held_here g f =
-      let descriptor : descriptor_of with_object g.object ≡ Some d = ap (descriptor_of with_object) f.object ∙ ap (option_and_then descriptor_in) object_there in
-      ap (λ (v : Option ℕ). option_and_then (λ (e : Field). held_by e.shape) (option_and_then (λ k. option_and_then (λ (d : Descriptor). slice_get d.fields k) (descriptor_of with_object g.object)) v)) f.of_field
+      let descriptor : descriptor_of with_object g.stobj ≡ Some d = ap (descriptor_of with_object) f.stobj ∙ ap (option_and_then descriptor_in) stobj_there in
+      ap (λ (v : Option ℕ). option_and_then (λ (e : Field). held_by e.shape) (option_and_then (λ k. option_and_then (λ (d : Descriptor). slice_get d.fields k) (descriptor_of with_object g.stobj)) v)) f.of_field
       ∙ (ap (λ (v : Option Descriptor). option_and_then (λ (e : Field). held_by e.shape) (option_and_then (λ (d : Descriptor). slice_get d.fields f.number) v)) descriptor
       ∙ ap (λ (v : Option Field). option_and_then (λ (e : Field). held_by e.shape) v) f.there)
 
@@ -294,14 +294,14 @@ module _ (w : World) (l : IsLawfulWorld w) (d : Descriptor) (new : IsNew w d) wh
       = fit_in d.name (layout_within see with_object 64) f.field.shape (field_tasks d.name f.field.shape) (all_fit d.name (layout_within see with_object 64) f.field.shape) f.task f.listed
       (ap (λ (r : Role). is_kept_back r (held_by f.field.shape)) (sym f.does) ∙ (ap (is_kept_back g.role) (sym (held_here g f)) ∙ kept)) in
       let outs : g.signature.outs ≡ f.task.1.outs = ap (λ (s : Signature). s.outs) f.signed in
-      let here : field_layout (unwrap_or g.field 0) (layout_of with_object g.object) ≡ shape_layout see (layout_within see with_object 64) f.field.shape
-      = ap (λ (v : Option ℕ). field_layout (unwrap_or v 0) (layout_of with_object g.object)) f.of_field
-      ∙ (ap (λ (x : ℕ). field_layout f.number (layout_of with_object x)) f.object ∙ (ap (field_layout f.number) object_fields ∙ layout_here (layout_within see with_object 64) d.fields f.number f.field f.there)) in
+      let here : field_layout (unwrap_or g.field 0) (layout_of with_object g.stobj) ≡ shape_layout see (layout_within see with_object 64) f.field.shape
+      = ap (λ (v : Option ℕ). field_layout (unwrap_or v 0) (layout_of with_object g.stobj)) f.of_field
+      ∙ (ap (λ (x : ℕ). field_layout f.number (layout_of with_object x)) f.stobj ∙ (ap (field_layout f.number) object_fields ∙ layout_here (layout_within see with_object 64) d.fields f.number f.field f.there)) in
       record {
-        outs = outs ∙ (fit.outs ∙ (ap (λ (r : Role). role_outs r d.name) (sym f.does) ∙ ap (role_outs g.role) (sym f.object)));
+        outs = outs ∙ (fit.outs ∙ (ap (λ (r : Role). role_outs r d.name) (sym f.does) ∙ ap (role_outs g.role) (sym f.stobj)));
         only = λ e.
             ap (λ (s : Signature). classes.stobjs s.ins) f.signed
-            ∙ (fit.only (sym outs ∙ (e ∙ ap (λ (x : ℕ). Stobj x ∷ []) f.object)) ∙ ap (λ (x : ℕ). x ∷ []) (sym f.object));
+            ∙ (fit.only (sym outs ∙ (e ∙ ap (λ (x : ℕ). Stobj x ∷ []) f.stobj)) ∙ ap (λ (x : ℕ). x ∷ []) (sym f.stobj));
         suits = subst (SuitsRole g.role) (sym here) (subst (λ (r : Role). SuitsRole r (shape_layout see (layout_within see with_object 64) f.field.shape)) (sym f.does) fit.suits);
       }
 
@@ -310,48 +310,48 @@ module _ (w : World) (l : IsLawfulWorld w) (d : Descriptor) (new : IsNew w d) wh
   made_function g (creating e) kept = true_false (ap (λ (q : GeneratedFunction). is_internal with_object (Generated q)) (sym e) ∙ kept)
   made_function g (of_field f) kept = made_field g f kept
 
-  object_of : (g : GeneratedFunction) → IsOfObject d g → g.object ≡ d.name
-  object_of g (recognizing e) = ap (λ (q : GeneratedFunction). q.object) e
-  object_of g (creating e) = ap (λ (q : GeneratedFunction). q.object) e
-  object_of g (of_field f) = f.object
+  object_of : (g : GeneratedFunction) → IsOfObject d g → g.stobj ≡ d.name
+  object_of g (recognizing e) = ap (λ (q : GeneratedFunction). q.stobj) e
+  object_of g (creating e) = ap (λ (q : GeneratedFunction). q.stobj) e
+  object_of g (of_field f) = f.stobj
 
-  few_inputs : (g : GeneratedFunction) → IsOfObject d g → HasObjectOrFew g.signature.ins
-  few_inputs g (recognizing e) = subst (λ (q : GeneratedFunction). HasObjectOrFew q.signature.ins) (sym e) (inl (omega arith))
-  few_inputs g (creating e) = subst (λ (q : GeneratedFunction). HasObjectOrFew q.signature.ins) (sym e) (inl (omega arith))
-  few_inputs g (of_field f) = subst (λ (q : Signature). HasObjectOrFew q.ins) (sym f.signed) (few_in (field_tasks d.name f.field.shape) (all_few d.name f.field.shape) f.task f.listed)
+  few_inputs : (g : GeneratedFunction) → IsOfObject d g → HasStobjOrFew g.signature.ins
+  few_inputs g (recognizing e) = subst (λ (q : GeneratedFunction). HasStobjOrFew q.signature.ins) (sym e) (inl (omega arith))
+  few_inputs g (creating e) = subst (λ (q : GeneratedFunction). HasStobjOrFew q.signature.ins) (sym e) (inl (omega arith))
+  few_inputs g (of_field f) = subst (λ (q : Signature). HasStobjOrFew q.ins) (sym f.signed) (few_in (field_tasks d.name f.field.shape) (all_few d.name f.field.shape) f.task f.listed)
 
   -- ---- accessors of children
 
-  held_field : (s : Shape) → IsGoodShape w s → (h : Holds) → held_by s ≡ Some h → IsHeld with_object h (shape_layout see (layout_within see with_object 64) s)
+  held_field : (s : Shape) → IsGoodShape w s → (h : HeldStobjs) → held_by s ≡ Some h → IsHeld with_object h (shape_layout see (layout_within see with_object 64) s)
   held_field (Scalar written initial) k h e = cc
   held_field (Array written initial length resizable) k h e = cc
   held_field (Hash test) k h e = cc
-  held_field (Child x) k h e = subst (λ (q : Holds). IsHeld with_object q (layout_within see with_object 64 x)) (is e) (child_layout x k)
+  held_field (Child x) k h e = subst (λ (q : HeldStobjs). IsHeld with_object q (layout_within see with_object 64 x)) (is e) (child_layout x k)
     where
       is : Some (One x) ≡ Some h → One x ≡ h
       is f = cc
   held_field (Children x n) k h e =
-      subst (λ (q : Holds). IsHeld with_object q (layout.Children n (layout_within see with_object 64 x))) (is e) (n, ap (layout.Children n) (child_layout x k))
+      subst (λ (q : HeldStobjs). IsHeld with_object q (layout.Children n (layout_within see with_object 64 x))) (is e) (n, ap (layout.Children n) (child_layout x k))
     where
       is : Some (Many x) ≡ Some h → Many x ≡ h
       is f = cc
 
   -- an accessor is told by its role, its field and what the field holds
-  record IsAccessorTo (g : GeneratedFunction) (held : Option Holds) (a : ChildAccessor) : Type 0 where
+  record IsAccessorTo (g : GeneratedFunction) (held : Option HeldStobjs) (a : ChildAccessor) : Type 0 where
     holds : held ≡ Some a.holds
-    object : a.object ≡ g.object
+    stobj : a.stobj ≡ g.stobj
     field : g.field ≡ Some a.field
 
-  accessor_is : (g : GeneratedFunction) (held : Option Holds) (a : ChildAccessor) → accessor_to g g.role g.field held ≡ Some a → IsAccessorTo g held a
+  accessor_is : (g : GeneratedFunction) (held : Option HeldStobjs) (a : ChildAccessor) → accessor_to g g.role g.field held ≡ Some a → IsAccessorTo g held a
   accessor_is g held a e = go g.role g.field refl held refl e
     where
-      object_is : (k : ℕ) (h : Holds) → Some (record { object = g.object; field = k; holds = h }) ≡ Some a → record { object = g.object; field = k; holds = h } ≡ a
+      object_is : (k : ℕ) (h : HeldStobjs) → Some (record { stobj = g.stobj; field = k; holds = h }) ≡ Some a → record { stobj = g.stobj; field = k; holds = h } ≡ a
       object_is k h f = cc
 
-      go : (r : Role) (v : Option ℕ) → g.field ≡ v → (q : Option Holds) → held ≡ q → accessor_to g r v q ≡ Some a → IsAccessorTo g held a
+      go : (r : Role) (v : Option ℕ) → g.field ≡ v → (q : Option HeldStobjs) → held ≡ q → accessor_to g r v q ≡ Some a → IsAccessorTo g held a
       go role.Access (Some k) f (Some h) i j =
           let same = object_is k h j in
-          record { holds = i ∙ ap (λ (c : ChildAccessor). Some c.holds) same; object = sym (ap (λ (c : ChildAccessor). c.object) same); field = f ∙ ap (λ (c : ChildAccessor). Some c.field) same }
+          record { holds = i ∙ ap (λ (c : ChildAccessor). Some c.holds) same; stobj = sym (ap (λ (c : ChildAccessor). c.stobj) same); field = f ∙ ap (λ (c : ChildAccessor). Some c.field) same }
       go role.Access None f q i j = cc
       go role.Access (Some k) f None i j = cc
       go role.Recognizer v f q i j = cc
@@ -376,9 +376,9 @@ module _ (w : World) (l : IsLawfulWorld w) (d : Descriptor) (new : IsNew w d) wh
       let is : IsAccessorTo g (held_in with_object g) a = accessor_is g (held_in with_object g) a i in
       let same : f.number ≡ a.field = number_of (sym f.of_field ∙ is.field) in
       let there : slice_get d.fields a.field ≡ Some f.field = ap (slice_get d.fields) (sym same) ∙ f.there in
-      let fields : layout_of with_object a.object ≡ fields_layout see (layout_within see with_object 64) d.fields = ap (layout_of with_object) (is.object ∙ f.object) ∙ object_fields in
+      let fields : layout_of with_object a.stobj ≡ fields_layout see (layout_within see with_object 64) d.fields = ap (layout_of with_object) (is.stobj ∙ f.stobj) ∙ object_fields in
       record {
-        number = ap eval.field_of e ∙ ap (λ (v : Option ℕ). unwrap_or v 0) is.field;
+        number = ap eval.field_number e ∙ ap (λ (v : Option ℕ). unwrap_or v 0) is.field;
         field = shape_layout see (layout_within see with_object 64) f.field.shape;
         there = subst (λ (k : Layout ℕ). IsField a.field k (shape_layout see (layout_within see with_object 64) f.field.shape)) (sym fields) (field_here (layout_within see with_object 64) d.fields a.field f.field there);
         held = held_field f.field.shape (good_field w d.fields new.fields f.number f.field f.there) a.holds (sym (held_here g f) ∙ is.holds);
@@ -391,7 +391,7 @@ module _ (w : World) (l : IsLawfulWorld w) (d : Descriptor) (new : IsNew w d) wh
 
   -- ---- its class
 
-  -- what `class_for` is, by the object that this one is congruent to
+  -- what `class_for` is, by the stobj that this one is congruent to
   abbrev class_given : Option ℕ → ℕ
   class_given None = d.name
   class_given (Some old) = unwrap_or (class_of w old) old
@@ -407,7 +407,7 @@ module _ (w : World) (l : IsLawfulWorld w) (d : Descriptor) (new : IsNew w d) wh
   class_is : IsClass (class_for w d)
   class_is = go d.congruent_to refl new.congruent
     where
-      old_class : (old : ℕ) → IsConcreteObject w old → d.congruent_to ≡ Some old → IsClass (unwrap_or (class_of w old) old)
+      old_class : (old : ℕ) → IsConcreteStobj w old → d.congruent_to ≡ Some old → IsClass (unwrap_or (class_of w old) old)
       old_class old h e =
           let at = concrete_at w old h in
           let class : class_of w old ≡ Some at.class = ap (option_and_then class_in) at.there in
@@ -494,10 +494,10 @@ module _ (w : World) (l : IsLawfulWorld w) (d : Descriptor) (new : IsNew w d) wh
       admitted_new x c (inl h) = subst IsAdmitted (sym h.1) tt
       admitted_new x c (inr h) = subst IsAdmitted (sym h.2) tt
 
--- it brings one name of an object
-pub entries_names : (w : World) (d : Descriptor) → object_names (stobj_entries w d) ≡ d.name ∷ []
+-- it brings one name of a stobj
+pub entries_names : (w : World) (d : Descriptor) → stobj_names (stobj_entries w d) ≡ d.name ∷ []
 entries_names w d = ap (λ (ns : List ℕ). d.name ∷ ns) (none_generated (generated_functions d))
   where
-    none_generated : (gs : List GeneratedFunction) → object_names (map Generated gs) ≡ []
+    none_generated : (gs : List GeneratedFunction) → stobj_names (map Generated gs) ≡ []
     none_generated [] = refl
     none_generated (g ∷ gs) = none_generated gs

@@ -4,7 +4,7 @@ use Rattle.std.specs.Prelude.{◌⊎◌, nat_eq, if◌then◌else◌}
 use Rattle.std.specs.Option.{option_or}
 use Rattle.std.proofs.lemmas.Bool.{eqb-true}
 use Rattle.std.proofs.lemmas.List.Folds.{find-append}
-use Rattle.model_terms.specs.Worlds.{World, Definition, definition, name_of, Primitive, Defined, Macro, Constant, Concrete, Generated, Abstract, OfAbstract, Named, Signed}
+use Rattle.model_terms.specs.Worlds.{World, Definition, definition, definition_name, Primitive, Defined, Macro, Constant, Concrete, Generated, Abstract, OfAbstract, Named, Signed}
 use Rattle.model_lawful.specs.Growth.{IsSettled, Becomes}
 use Rattle.model_made.specs.Lawful.{IsAdmitted}
 
@@ -18,7 +18,7 @@ EachDefinition P (d ∷ ds) = P d × EachDefinition P ds
 module _ (P : Definition → Type 0) where
   pub each_found : (w : World) → EachDefinition P w → (x : ℕ) (d : Definition) → definition w x ≡ Some d → P d
   each_found [] h x d e = cc
-  each_found (c ∷ w) h x d e = go (nat_eq x (name_of c)) e (each_found w h.1 x d)
+  each_found (c ∷ w) h x d e = go (nat_eq x (definition_name c)) e (each_found w h.1 x d)
     where
       some_is : Some c ≡ Some d → c ≡ d
       some_is f = cc
@@ -27,21 +27,21 @@ module _ (P : Definition → Type 0) where
       go true f later = subst P (some_is f) h.0
       go false f later = later f
 
-pub named : (w : World) (x : ℕ) (d : Definition) → definition w x ≡ Some d → x ≡ name_of d
+pub named : (w : World) (x : ℕ) (d : Definition) → definition w x ≡ Some d → x ≡ definition_name d
 named [] x d e = cc
-named (c ∷ w) x d e = go (nat_eq x (name_of c)) refl e (named w x d)
+named (c ∷ w) x d e = go (nat_eq x (definition_name c)) refl e (named w x d)
   where
     some_is : Some c ≡ Some d → c ≡ d
     some_is f = cc
 
-    go : (b : Bool) → nat_eq x (name_of c) ≡ b → (if b then Some c else definition w x) ≡ Some d → (definition w x ≡ Some d → x ≡ name_of d) → x ≡ name_of d
-    go true s f later = eqb-true x (name_of c) s ∙ ap name_of (some_is f)
+    go : (b : Bool) → nat_eq x (definition_name c) ≡ b → (if b then Some c else definition w x) ≡ Some d → (definition w x ≡ Some d → x ≡ definition_name d) → x ≡ definition_name d
+    go true s f later = eqb-true x (definition_name c) s ∙ ap definition_name (some_is f)
     go false s f later = later f
 
 -- ---- more definitions
 
 pub definition_both : (w new : World) (x : ℕ) → definition (w ++ new) x ≡ option_or (definition w x) (definition new x)
-definition_both w new x = find-append (λ d. nat_eq x (name_of d)) w new
+definition_both w new x = find-append (λ d. nat_eq x (definition_name d)) w new
 
 pub definition_old : (w new : World) (x : ℕ) (d : Definition) → definition w x ≡ Some d → definition (w ++ new) x ≡ Some d
 definition_old w new x d e = definition_both w new x ∙ ap (λ (c : Option Definition). option_or c (definition new x)) e

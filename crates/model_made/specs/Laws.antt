@@ -5,7 +5,7 @@ use Rattle.model_objects.specs.Object.{Object}
 use Rattle.model_terms.specs.Worlds.{World, Descriptor, AbstractDescriptor}
 use Rattle.model_expansion.specs.Expansion.{Setting, Progress}
 use Rattle.model_stobjs.specs.Answers.{EventResult, Grants, Refuses, Halts}
-use Rattle.model_stobjs.specs.Objects.{descriptor_read}
+use Rattle.model_stobjs.specs.Descriptors.{descriptor_read}
 use Rattle.model_stobjs.specs.Abstracts.{abstract_read, abstract_entries}
 use Rattle.model_stobjs.specs.Entries.{stobj_entries}
 use Rattle.model_accepted.specs.Threaded.{Suits, IsThreaded}
@@ -30,13 +30,13 @@ StaysLawful w (Grants new p) = IsLawfulWorld (w ++ new)
 StaysLawful w (Refuses r p) = Unit {0}
 StaysLawful w (Halts stop inside p) = Unit {0}
 
--- the same of an object with the functions that it comes with
+-- the same of a stobj with the functions that it comes with
 abbrev pub StaysLawfulWith : World → EventResult Descriptor → Type 0
 StaysLawfulWith w (Grants d p) = IsLawfulWorld (w ++ stobj_entries w d)
 StaysLawfulWith w (Refuses r p) = Unit {0}
 StaysLawfulWith w (Halts stop inside p) = Unit {0}
 
--- the same of an abstract object with its functions
+-- the same of an abstract stobj with its functions
 abbrev pub StaysLawfulAbstractly : World → EventResult AbstractDescriptor → Type 0
 StaysLawfulAbstractly w (Grants d p) = IsLawfulWorld (w ++ abstract_entries w d)
 StaysLawfulAbstractly w (Refuses r p) = Unit {0}
@@ -48,7 +48,7 @@ pub record DefinitionsStayLawful : Type 0 where
   pub constants : (x : Setting) → IsLawfulWorld x.world → (d : Object ℕ) (p : Progress) → StaysLawful x.world (constant_read x d p)
   pub functions : (x : Setting) → IsLawfulWorld x.world → (head : ℕ) (d : Object ℕ) (p : Progress) → StaysLawful x.world (functions_read x head d p)
   pub stobjs : (w : World) → IsLawfulWorld w → (packages : List Package) (d : Object ℕ) (p : Progress) → StaysLawfulWith w (descriptor_read w packages d p)
-  pub abstract_objects : (w : World) → IsLawfulWorld w → (packages : List Package) (d : Object ℕ) (p : Progress) → StaysLawfulAbstractly w (abstract_read w packages d p)
+  pub abstract_stobjs : (w : World) → IsLawfulWorld w → (packages : List Package) (d : Object ℕ) (p : Progress) → StaysLawfulAbstractly w (abstract_read w packages d p)
 
 -- a command keeps a session lawful, whether it is refused, stops or ends
 pub record CommandsStayLawful : Type 0 where
@@ -56,12 +56,12 @@ pub record CommandsStayLawful : Type 0 where
 
 -- what is asked of a world where forms run: it is threaded, and suits itself
 pub record LawfulSessionsAreThreaded : Type 0 where
-  pub threaded : (s : Session) → IsLawfulSession s → IsThreaded s.standing.world
-  pub suits : (s : Session) → IsLawfulSession s → Suits s.standing.world s.standing.world
+  pub threaded : (s : Session) → IsLawfulSession s → IsThreaded s.environment.world
+  pub suits : (s : Session) → IsLawfulSession s → Suits s.environment.world s.environment.world
 
 -- a session that commands made is lawful; so its world is, which is threaded and suits itself
 pub record MadeSessionsAreLawful : Type 0 where
   pub lawful : (s : Session) → IsMade s → IsLawfulSession s
-  pub world : (s : Session) → IsMade s → IsLawful s.standing.world
-  pub threaded : (s : Session) → IsMade s → IsThreaded s.standing.world
-  pub suits : (s : Session) → IsMade s → Suits s.standing.world s.standing.world
+  pub world : (s : Session) → IsMade s → IsLawful s.environment.world
+  pub threaded : (s : Session) → IsMade s → IsThreaded s.environment.world
+  pub suits : (s : Session) → IsMade s → Suits s.environment.world s.environment.world

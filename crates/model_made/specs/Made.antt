@@ -29,7 +29,7 @@ commanded s (t ∷ ts) = commanded (after_step s t) ts
 -- reading adds symbols, and they are still a table; the form is a value whose symbols are known
 pub record HasRead (s : Session) (t : Step) : Type 0 where
   pub added : (more : List QualifiedName) × (t.read ≡ s.symbols ++ more)
-  pub table : IsTable (record { packages = s.standing.packages; symbols = t.read })
+  pub table : IsTable (record { packages = s.environment.packages; symbols = t.read })
   pub known : Knows (length t.read) t.form
   pub value : is_value t.form ≡ true
 

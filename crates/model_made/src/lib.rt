@@ -1,4 +1,4 @@
-//! Sessions that commands have made, and what holds of their worlds and objects.
+//! Sessions that commands have made, and what holds of their worlds and stobjs.
 #![tactic(auto)]
 
 ghost use Rattle.model_made.specs.Laws.{CommandsStayLawful, DefinitionsStayLawful, LawfulSessionsAreThreaded, MadeSessionsAreLawful, OpeningIsLawful};
@@ -10,13 +10,13 @@ pub fn the_opening_session_is_lawful()
     ensures { OpeningIsLawful }
 {}
 
-/// Macros, constants, functions, concrete and abstract objects keep a world lawful.
+/// Macros, constants, functions, concrete and abstract stobjs keep a world lawful.
 #[tactic(auto, using(crate::proofs::LawLemmas::definitions_stay_lawful))]
 pub fn definitions_stay_lawful()
     ensures { DefinitionsStayLawful }
 {}
 
-/// Each command keeps a session lawful: its world, and its live objects in order
+/// Each command keeps a session lawful: its world, and its live stobjs in order
 /// with lists that have the fields of their layouts.
 #[tactic(auto, using(crate::proofs::CommandLemmas::commands_stay_lawful))]
 pub fn commands_stay_lawful()

@@ -1,17 +1,16 @@
--- What an abstract object brings: its creator, and functions whose logic functions are of no abstract object.
+-- What an abstract stobj brings: its creator, and functions whose logic functions are of no abstract stobj.
 use Rattle.std.proofs.Common.{◌≡◌, ℕ, zero, suc, List, [], ◌∷◌, ◌++◌, map, length, Bool, true, false, Option, Some, None, refl, sym, ap, ◌∙◌}
 use Rattle.std.specs.Prelude.{◌||◌, ◌&&◌, nat_eq, nat_lt, replicate, option_and_then, unwrap_or, if◌then◌else◌}
 use Rattle.std.proofs.lemmas.Bool.Decides.{nat_tests}
 use Rattle.std.proofs.Common.{arith}
 use Rattle.model_terms.specs.declared.role.AbstractRole.TheVariants as abstract_role
 use Rattle.model_terms.specs.Worlds.{World, AbstractFunction, AbstractDescriptor, FunctionOfAbstract, Definition, Out, Ordinary, Stobj, Signature, definition, Primitive, Defined, Macro, Constant, Concrete, Generated, Abstract, OfAbstract, Named, Signed}
-use Rattle.model_terms.specs.Classes.{stobjs}
+use Rattle.model_terms.specs.Classes.{stobjs, has}
 use Rattle.model_terms.specs.Outputs.{signature_in}
 use Rattle.model_terms.specs.Nested.{same_kinds}
 use Rattle.model_eval_laws.proofs.Lists.{same_number}
 use Rattle.model_accepted.specs.Threaded.{IsConcrete}
 use Rattle.model_accepted.proofs.AcceptLemmas.{true_false, neither, both_true, kinds_same}
-use Rattle.model_expansion.specs.Forms.{among}
 use Rattle.model_expansion.specs.Faults.{Refusal}
 use Rattle.model_expansion.specs.TypeTerms.{true_core}
 use Rattle.model_expansion_forms.specs.Nodes.{EachNode, HasSeveral}
@@ -22,7 +21,7 @@ use Rattle.model_stobjs.specs.Heads.{name_in_use}
 use Rattle.model_stobjs.specs.Abstracts.{new_names, export_names, no_signature, signature, ordinaries, has_signature, mismatch_unless, recognizer_matches, creator_matches, corr_matches, is_only, is_only_or_none, may_be_exec_of, exec_matches, outputs_match, is_logical, logic_matches, export_matches, signature_mismatch, abstracted, function_of, export_formals, formals, guard_in, logic_guard, to_exports, export_entry, foundation_missing, missing_function, wanted_functions, function_refusal, abstract_entries}
 use Rattle.model_made.proofs.WorldLemmas.{EachDefinition, definition_old, definition_new}
 use Rattle.model_made.proofs.DraftLemmas.{none_or, first_free}
-use Rattle.model_follows.specs.Worlds.{HasAbstractCreator}
+use Rattle.model_follows.specs.FollowedWorlds.{HasAbstractCreator}
 use Rattle.model_follows.specs.Abstract.{IsOfAbstract}
 use Rattle.model_logic.specs.Logic.{creator_of}
 use Rattle.model_made_logic.proofs.StockLemmas.{AbstractThere, OfAbstractThere, StockedDefinition, IsStocked}
@@ -31,7 +30,7 @@ abbrev given_or : Option Refusal → Option Refusal → Option Refusal
 given_or None later = later
 given_or (Some y) later = Some y
 
--- an object is no ordinary output
+-- a stobj is no ordinary output
 no_plain : (o n : ℕ) → same_kinds (Stobj o ∷ []) (replicate n Ordinary) ≡ false
 no_plain o zero = refl
 no_plain o (suc n) = refl
@@ -46,7 +45,7 @@ module _ (w : World) (stocked : IsStocked w) where
   signature_is : (x : ℕ) (v : Option Definition) → definition w x ≡ v → signature w x ≡ unwrap_or (option_and_then signature_in v) (no_signature w)
   signature_is x v e = ap (λ (u : Option Definition). unwrap_or (option_and_then signature_in u) (no_signature w)) e
 
-  -- a function that is there and of no abstract object
+  -- a function that is there and of no abstract stobj
   record IsPlainFunction (x : ℕ) : Type 0 where
     logic : Definition
     found : definition w x ≡ Some logic
@@ -68,8 +67,8 @@ module _ (w : World) (stocked : IsStocked w) where
       go (Some (Named name formals)) e = record { logic = Named name formals; found = e; concrete = tt }
       go (Some (Signed name formals s executable)) e = record { logic = Signed name formals s executable; found = e; concrete = tt }
 
-  -- of an abstract object with ordinary inputs alone: it gives the object
-  gives_object : (x n : ℕ) (g : FunctionOfAbstract) → definition w x ≡ Some (OfAbstract g) → same_kinds (signature w x).ins (ordinaries w n) ≡ true → (signature w x).outs ≡ Stobj g.object ∷ []
+  -- of an abstract stobj with ordinary inputs alone: it gives the stobj
+  gives_object : (x n : ℕ) (g : FunctionOfAbstract) → definition w x ≡ Some (OfAbstract g) → same_kinds (signature w x).ins (ordinaries w n) ≡ true → (signature w x).outs ≡ Stobj g.stobj ∷ []
   gives_object x n g e h =
       let is : signature w x ≡ g.signature = signature_is x (Some (OfAbstract g)) e in
       let ins : (signature w x).ins ≡ replicate n Ordinary = kinds_same (signature w x).ins (replicate n Ordinary) h in
@@ -131,7 +130,7 @@ module _ (w : World) (stocked : IsStocked w) where
     abbrev creating : FunctionOfAbstract
     creating = record {
       name = d.creator.name;
-      object = d.name;
+      stobj = d.name;
       role = abstract_role.Creator;
       formals = [];
       signature = record { ins = []; outs = Stobj d.name ∷ [] };
@@ -143,8 +142,8 @@ module _ (w : World) (stocked : IsStocked w) where
     abbrev exporting : World
     exporting = map (export_entry w d) d.exports
 
-    object_there : definition with_abstract d.name ≡ Some (Abstract d)
-    object_there =
+    stobj_there : definition with_abstract d.name ≡ Some (Abstract d)
+    stobj_there =
         definition_new w (abstract_entries w d) d.name (first_free w d.name (d.recognizer.name ∷ d.creator.name ∷ export_names d) free).0.nothing
         ∙ ap (λ (b : Bool). if b then Some (Abstract d) else definition (recognizing ∷ OfAbstract creating ∷ exporting) d.name) (same_number d.name)
 
@@ -153,9 +152,9 @@ module _ (w : World) (stocked : IsStocked w) where
         let first = first_free w d.name (d.recognizer.name ∷ d.creator.name ∷ export_names d) free in
         let second = first_free w d.recognizer.name (d.creator.name ∷ export_names d) first.1 in
         let third = first_free w d.creator.name (export_names d) second.1 in
-        let not_recognizer = neither (nat_eq d.name d.recognizer.name) (nat_eq d.name d.creator.name || among d.name (export_names d)) first.0.once in
-        let not_creator = neither (nat_eq d.name d.creator.name) (among d.name (export_names d)) not_recognizer.1 in
-        let apart = neither (nat_eq d.recognizer.name d.creator.name) (among d.recognizer.name (export_names d)) second.0.once in
+        let not_recognizer = neither (nat_eq d.name d.recognizer.name) (nat_eq d.name d.creator.name || has (export_names d) d.name) first.0.once in
+        let not_creator = neither (nat_eq d.name d.creator.name) (has (export_names d) d.name) not_recognizer.1 in
+        let apart = neither (nat_eq d.recognizer.name d.creator.name) (has (export_names d) d.recognizer.name) second.0.once in
         record {
           creator = creating;
           there =
@@ -168,11 +167,11 @@ module _ (w : World) (stocked : IsStocked w) where
 
     -- ---- each function
 
-    stands : (f : FunctionOfAbstract) → f.object ≡ d.name → IsPlainFunction f.logic → (f.role ≡ abstract_role.Recognizer → (f.logic ≡ d.recognizer.logic) × (f.signature.ins ≡ Stobj f.object ∷ []))
-        → ((k : ℕ) → f.signature.ins ≡ replicate k Ordinary → f.signature.outs ≡ Stobj f.object ∷ []) → EachNode HasSeveral f.guard → OfAbstractThere with_abstract f
+    stands : (f : FunctionOfAbstract) → f.stobj ≡ d.name → IsPlainFunction f.logic → (f.role ≡ abstract_role.Recognizer → (f.logic ≡ d.recognizer.logic) × (f.signature.ins ≡ Stobj f.stobj ∷ []))
+        → ((k : ℕ) → f.signature.ins ≡ replicate k Ordinary → f.signature.outs ≡ Stobj f.stobj ∷ []) → EachNode HasSeveral f.guard → OfAbstractThere with_abstract f
     stands f same p r q several = record {
       descriptor = d;
-      object = ap (definition with_abstract) same ∙ object_there;
+      stobj = ap (definition with_abstract) same ∙ stobj_there;
       logic = p.logic;
       found = definition_old w (abstract_entries w d) f.logic p.logic p.found;
       concrete = p.concrete;
@@ -185,7 +184,7 @@ module _ (w : World) (stocked : IsStocked w) where
     has_object zero ks e = cc
     has_object (suc k) ks e = cc
 
-    -- inputs with an object among them are not all ordinary
+    -- inputs with a stobj has are them not all ordinary
     some_object : (c : ℕ) (ks : List Out) → is_only w c (stobjs ks) ≡ true → (k : ℕ) → map (abstracted w d.name) ks ≡ replicate k Ordinary → ⊥
     some_object c [] h k e = true_false (sym h)
     some_object c (Ordinary ∷ ks) h zero e = cc
@@ -225,11 +224,11 @@ module _ (w : World) (stocked : IsStocked w) where
         abstract : (g : FunctionOfAbstract) → definition w f.logic ≡ Some (OfAbstract g) → ⊥
         abstract g e =
             let n = length (signature w f.exec).outs in
-            let outs : (signature w f.logic).outs ≡ Stobj g.object ∷ [] = gives_object f.logic (length (signature w f.exec).ins) g e kinds.0 in
+            let outs : (signature w f.logic).outs ≡ Stobj g.stobj ∷ [] = gives_object f.logic (length (signature w f.exec).ins) g e kinds.0 in
             true_false (sym kinds.1 ∙
             (ap (λ (ks : List Out). same_kinds ks (ordinaries w n) || (nat_lt 1 n && (is_logical w (definition w f.logic) && nat_eq (length ks) 1))) outs
-            ∙ (ap (λ (b : Bool). b || (nat_lt 1 n && (is_logical w (definition w f.logic) && nat_eq (length (Stobj g.object ∷ [])) 1))) (no_plain g.object n)
-            ∙ (ap (λ (v : Option Definition). nat_lt 1 n && (is_logical w v && nat_eq (length (Stobj g.object ∷ [])) 1)) e ∙ and_false (nat_lt 1 n)))))
+            ∙ (ap (λ (b : Bool). b || (nat_lt 1 n && (is_logical w (definition w f.logic) && nat_eq (length (Stobj g.stobj ∷ [])) 1))) (no_plain g.stobj n)
+            ∙ (ap (λ (v : Option Definition). nat_lt 1 n && (is_logical w v && nat_eq (length (Stobj g.stobj ∷ [])) 1)) e ∙ and_false (nat_lt 1 n)))))
 
     guard_several : (x : ℕ) (v : Option Definition) → definition w x ≡ v → EachNode HasSeveral (guard_in w v)
     guard_several x None e = tt
@@ -291,14 +290,14 @@ module _ (w : World) (stocked : IsStocked w) where
   pub functions_of_abstract : (x : ℕ) (f : FunctionOfAbstract) → definition w x ≡ Some (OfAbstract f) → IsOfAbstract w f
   functions_of_abstract x f e =
       let there = stocked.each x (OfAbstract f) e in
-      record { descriptor = there.descriptor; object = there.object; logic = λ g h. not_both there.logic there.concrete g (sym there.found ∙ h); recognizer = there.recognizer }
+      record { descriptor = there.descriptor; stobj = there.stobj; logic = λ g h. not_both there.logic there.concrete g (sym there.found ∙ h); recognizer = there.recognizer }
 
   pub abstracts_made : (x : ℕ) (d : AbstractDescriptor) → definition w x ≡ Some (Abstract d) → HasAbstractCreator w x
   abstracts_made x d e =
       let c = stocked.each x (Abstract d) e in
       record {
         descriptor = d;
-        object = e;
+        stobj = e;
         creator = c.creator;
         there = ap (λ (v : Option Definition). definition w (creator_of v)) e ∙ c.there;
         makes = c.makes;

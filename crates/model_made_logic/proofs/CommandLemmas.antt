@@ -1,4 +1,4 @@
--- Commands keep the symbols of a session a table, and those of its definitions and live objects known.
+-- Commands keep the symbols of a session a table, and those of its definitions and live stobjs known.
 use Rattle.std.proofs.Common.{◌≡◌, ℕ, ◌<◌, ◌≤◌, List, [], ◌∷◌, length, ◌+◌, Option, Some, None, ap, ◌∙◌, arith}
 use Rattle.std.specs.Prelude.{nat_eq, option_map}
 use Rattle.std.proofs.lemmas.List.{length-append}
@@ -17,14 +17,14 @@ use Rattle.model_accepted.specs.Threaded.{layout_of}
 use Rattle.model_expansion.specs.Words.{in_package_word, defpkg_word, defconst_word, defmacro_word, defstobj_word, defabsstobj_word}
 use Rattle.model_expansion.specs.Expansion.{Progress, Expanded, Makes, Fails, expanded, at_start}
 use Rattle.model_stobjs.specs.Answers.{EventResult, Grants, Refuses, Halts}
-use Rattle.model_stobjs.specs.Objects.{descriptor_read}
+use Rattle.model_stobjs.specs.Descriptors.{descriptor_read}
 use Rattle.model_stobjs.specs.Entries.{stobj_entries}
 use Rattle.model_stobjs.specs.Abstracts.{abstract_read, abstract_entries}
 use Rattle.model_stobjs.specs.Obligations.{obligations, too_large}
 use Rattle.model_events.specs.Functions.{functions_read}
 use Rattle.model_events.specs.Macros.{macro_read}
 use Rattle.model_events.specs.Constants.{constant_read, package_read, current_read}
-use Rattle.model_events.specs.Events.{Standing, Limits, Obliged, Admitted, setting, defining, definitions_admitted, object_admitted, package_admitted, current_admitted, abstract_admitted, admitted}
+use Rattle.model_events.specs.Events.{Environment, Limits, Obliged, Admitted, setting, defining, definitions_admitted, stobj_admitted, package_admitted, current_admitted, abstract_admitted, admitted}
 use Rattle.model_books.specs.Opening.{Session}
 use Rattle.model_books.specs.Commands.{Answer, Answered, live_scope, with_created, event_outcome, evaluated_outcome, core_outcome, expanded_outcome, live_list, at_once, ways, command}
 use Rattle.model_books_laws.proofs.WayLemmas.{ShowHolds}
@@ -45,14 +45,14 @@ use Rattle.model_made_logic.proofs.EventLemmas.{Leaves, leaves_then, leaves_unle
 
 -- ---- more symbols
 
-symbols_keep : (s : Session) → IsKnownSession s → (symbols : List QualifiedName) → Grows s.standing.packages s.symbols symbols → IsKnownSession (record s { symbols = symbols })
+symbols_keep : (s : Session) → IsKnownSession s → (symbols : List QualifiedName) → Grows s.environment.packages s.symbols symbols → IsKnownSession (record s { symbols = symbols })
 symbols_keep s known symbols g =
     let enough : 2 ≤ length s.symbols = known.enough in
     let longer : length s.symbols ≤ length symbols = g.longer in
     record {
       enough = omega (arith, enough, longer);
       table = g.table known.table;
-      definitions = definitions_more (length s.symbols) (length symbols) g.longer s.standing.world known.definitions;
+      definitions = definitions_more (length s.symbols) (length symbols) g.longer s.environment.world known.definitions;
       live = stobjs_more (length s.symbols) (length symbols) g.longer s.stobjs known.live;
     }
 
@@ -62,10 +62,10 @@ live_known n (o ∷ os) = (tt, live_known n os)
 
 module _ (k : Limits) (s : Session) (lawful : IsLawfulSession s) (known : IsKnownSession s) where
   abbrev packages : List Package
-  packages = s.standing.packages
+  packages = s.environment.packages
 
   abbrev world : World
-  world = s.standing.world
+  world = s.environment.world
 
   abbrev count : ℕ
   count = length s.symbols
@@ -81,49 +81,49 @@ module _ (k : Limits) (s : Session) (lawful : IsLawfulSession s) (known : IsKnow
 
   -- what an event that was granted leaves
   record IsGranted (symbols : List QualifiedName) (a : Admitted) : Type 0 where
-    table : IsTable (table_of packages symbols) → IsTable (table_of a.standing.packages symbols)
-    definitions : KnowsDefinitions a.standing.world (length symbols)
+    table : IsTable (table_of packages symbols) → IsTable (table_of a.environment.packages symbols)
+    definitions : KnowsDefinitions a.environment.world (length symbols)
 
   abbrev Granted : List QualifiedName → EventResult Admitted → Type 0
   Granted old r = Leaves packages IsGranted old r
 
-  entries_granted : (head : ℕ) (new : World) (p : Progress) → count ≤ size p → EachDefinition (KnowsDefinition (size p)) new → Granted p.symbols (definitions_admitted s.standing head new p)
+  entries_granted : (head : ℕ) (new : World) (p : Progress) → count ≤ size p → EachDefinition (KnowsDefinition (size p)) new → Granted p.symbols (definitions_admitted s.environment head new p)
   entries_granted head new p l h = (grows_same packages p.symbols, record { table = λ t. t; definitions = definitions_with world new (size p) (later p l) h })
 
-  event_granted : (head : ℕ) (d : Object ℕ) → Knows count d → Granted s.symbols (admitted s.standing k head d (at_start s.symbols))
+  event_granted : (head : ℕ) (d : Object ℕ) → Knows count d → Granted s.symbols (admitted s.environment k head d (at_start s.symbols))
   unfolding admitted
   event_granted head d h =
       let p = at_start s.symbols in
-      let x = setting s.standing k in
+      let x = setting s.environment k in
       let rows = lawful.world.functions in
       leaves_if packages IsGranted s.symbols (nat_eq head in_package_word) _ _
-      (leaves_then packages Whatever IsGranted s.symbols (current_read packages d p) (current_admitted s.standing) (current_leaves world packages d p) (λ n q l u.
+      (leaves_then packages Whatever IsGranted s.symbols (current_read packages d p) (current_admitted s.environment) (current_leaves world packages d p) (λ n q l u.
       (grows_same packages q.symbols, record { table = λ t. t; definitions = later q l })))
       (leaves_if packages IsGranted s.symbols (nat_eq head defpkg_word) _ _
-      (leaves_then packages (MayBeAdded packages) IsGranted s.symbols (package_read x d p) (package_admitted s.standing) (package_leaves x count known.enough known.definitions rows d p (omega arith) h) (λ a q l may.
+      (leaves_then packages (MayBeAdded packages) IsGranted s.symbols (package_read x d p) (package_admitted s.environment) (package_leaves x count known.enough known.definitions rows d p (omega arith) h) (λ a q l may.
       (grows_same packages q.symbols, record { table = package_table packages q.symbols a may; definitions = later q l })))
       (leaves_if packages IsGranted s.symbols (nat_eq head defconst_word) _ _
-      (leaves_then packages NewKnown IsGranted s.symbols (constant_read x d p) (definitions_admitted s.standing head) (constant_leaves x count known.enough known.definitions rows d p (omega arith) h) (entries_granted head))
+      (leaves_then packages NewKnown IsGranted s.symbols (constant_read x d p) (definitions_admitted s.environment head) (constant_leaves x count known.enough known.definitions rows d p (omega arith) h) (entries_granted head))
       (leaves_if packages IsGranted s.symbols (nat_eq head defmacro_word) _ _
-      (leaves_then packages NewKnown IsGranted s.symbols (macro_read x d p) (definitions_admitted s.standing head) (macro_leaves x count known.enough known.definitions rows d p (omega arith) h) (entries_granted head))
+      (leaves_then packages NewKnown IsGranted s.symbols (macro_read x d p) (definitions_admitted s.environment head) (macro_leaves x count known.enough known.definitions rows d p (omega arith) h) (entries_granted head))
       (leaves_if packages IsGranted s.symbols (nat_eq head defstobj_word) _ _
-      (leaves_then packages DescriptorKnown IsGranted s.symbols (descriptor_read world packages d p) (object_admitted s.standing) (descriptor_leaves world packages d p known.enough h) (λ o q l fields.
+      (leaves_then packages DescriptorKnown IsGranted s.symbols (descriptor_read world packages d p) (stobj_admitted s.environment) (descriptor_leaves world packages d p known.enough h) (λ o q l fields.
       (grows_same packages q.symbols, record { table = λ t. t; definitions = definitions_with world (stobj_entries world o) (size q) (later q l) (entries_known (size q) world o fields) })))
       (leaves_if packages IsGranted s.symbols (nat_eq head defabsstobj_word) _ _
-      (leaves_then packages Whatever IsGranted s.symbols (abstract_read world packages d p) (abstract_admitted s.standing) (abstract_leaves world packages d p known.enough h) (λ o q l u. abstract_granted o q l))
-      (leaves_then packages NewKnown IsGranted s.symbols (functions_read x head d p) (definitions_admitted s.standing head) (functions_leave x count known.enough known.definitions lawful.world head d p (omega arith) h) (entries_granted head)))))))
+      (leaves_then packages Whatever IsGranted s.symbols (abstract_read world packages d p) (abstract_admitted s.environment) (abstract_leaves world packages d p known.enough h) (λ o q l u. abstract_granted o q l))
+      (leaves_then packages NewKnown IsGranted s.symbols (functions_read x head d p) (definitions_admitted s.environment head) (functions_leave x count known.enough known.definitions lawful.world head d p (omega arith) h) (entries_granted head)))))))
     where
-      abstract_granted : (o : worlds.AbstractDescriptor) (q : Progress) → count ≤ size q → Granted q.symbols (abstract_admitted s.standing o q)
+      abstract_granted : (o : worlds.AbstractDescriptor) (q : Progress) → count ≤ size q → Granted q.symbols (abstract_admitted s.environment o q)
       abstract_granted o q l =
           let os = obligations world q.symbols o in
           let two : 2 ≤ count = known.enough in
-          leaves_unless packages IsGranted (too_large os) (Grants (record { standing = defining s.standing (abstract_entries world o); created = Some o.name; said = Obliged o.name os })) q (λ light.
+          leaves_unless packages IsGranted (too_large os) (Grants (record { environment = defining s.environment (abstract_entries world o); created = Some o.name; said = Obliged o.name os })) q (λ light.
           (grows_same packages q.symbols, record { table = λ t. t; definitions = definitions_with world (abstract_entries world o) (size q) (later q l) (abstract_known (size q) (omega (arith, two, l)) world (later q l) o) }))
 
-  created_known : (n : ℕ) (standing : Standing) (v : Option ℕ) → KnowsDefinitions standing.world n → KnowsStobjs n s.stobjs → KnowsStobjs n (with_created k s standing v)
-  created_known n standing None d h = h
-  created_known n standing (Some x) d h =
-      both_known n s.stobjs _ h (initial_known (λ t. t < n) (layout_of standing.world x) ((definitions_world standing.world n d).layouts x), tt)
+  created_known : (n : ℕ) (environment : Environment) (v : Option ℕ) → KnowsDefinitions environment.world n → KnowsStobjs n s.stobjs → KnowsStobjs n (with_created k s environment v)
+  created_known n environment None d h = h
+  created_known n environment (Some x) d h =
+      both_known n s.stobjs _ h (initial_known (λ t. t < n) (layout_of environment.world x) ((definitions_world environment.world n d).layouts x), tt)
 
   event_known : (r : EventResult Admitted) → Granted s.symbols r → IsKept (event_outcome k s r)
   event_known (Grants a p) g =
@@ -133,7 +133,7 @@ module _ (k : Limits) (s : Session) (lawful : IsLawfulSession s) (known : IsKnow
         enough = omega (arith, enough, longer);
         table = g.1.table (g.0.table known.table);
         definitions = g.1.definitions;
-        live = created_known (size p) a.standing a.created g.1.definitions (stobjs_more count (size p) longer s.stobjs known.live);
+        live = created_known (size p) a.environment a.created g.1.definitions (stobjs_more count (size p) longer s.stobjs known.live);
       }
   event_known (Refuses r p) g = symbols_keep s known p.symbols g
   event_known (Halts stop inside p) g = symbols_keep s known p.symbols g
@@ -159,7 +159,7 @@ module _ (k : Limits) (s : Session) (lawful : IsLawfulSession s) (known : IsKnow
       (ends_evaluated world (size p) (omega (arith, enough, longer)) (definitions_world world (size p) (later p longer)) packages k.steps k.depth f (live s.stobjs) (begun p.symbols s.stobjs p.calls) h (omega arith) (live_known (size p) s.stobjs)
       (stobjs_more count (size p) longer s.stobjs known.live))
 
-  form_known : (e : Expanded Core) → FormGrows (setting s.standing k) count known.enough known.definitions lawful.world.functions s.symbols e → IsKept (expanded_outcome k s e)
+  form_known : (e : Expanded Core) → FormGrows (setting s.environment k) count known.enough known.definitions lawful.world.functions s.symbols e → IsKept (expanded_outcome k s e)
   form_known (Makes f p) h = core_known f p (expression_fault world (live_scope s.stobjs) f) h.0 h.1
   form_known (Fails fault p) h = symbols_keep s known p.symbols h
 
@@ -171,11 +171,11 @@ module _ (k : Limits) (s : Session) (lawful : IsLawfulSession s) (known : IsKnow
 
   all_known : KnownWays IsKept (ways k s) s.symbols count
   all_known = record {
-    event = λ head d h. event_known (admitted s.standing k head d (at_start s.symbols)) (event_granted head d h);
+    event = λ head d h. event_known (admitted s.environment k head d (at_start s.symbols)) (event_granted head d h);
     skipped = known;
     refused = λ r. known;
     expression = λ form h.
-        form_known (expanded (setting s.standing k) form (at_start s.symbols)) (form_expands (setting s.standing k) count known.enough known.definitions lawful.world.functions form (at_start s.symbols) (omega arith) h);
+        form_known (expanded (setting s.environment k) form (at_start s.symbols)) (form_expands (setting s.environment k) count known.enough known.definitions lawful.world.functions form (at_start s.symbols) (omega arith) h);
     show = λ x. shown_known (live_list k s x) _;
     cells = known;
   }

@@ -1,4 +1,4 @@
--- What a function of a concrete object and a primitive give has known symbols, where those of arguments and lists are.
+-- What a function of a concrete stobj and a primitive give has known symbols, where those of arguments and lists are.
 use Rattle.std.proofs.Common.{◌≡◌, ℕ, ◌<◌, ◌≤◌, List, [], ◌∷◌, length, Bool, true, false, Option, Some, None, refl, sym, ap, ◌∙◌, subst, arith}
 use Rattle.std.specs.Prelude.{◌&&◌, not, nat_lt, is_some, unwrap_or, if◌then◌else◌}
 use Rattle.std.proofs.lemmas.Bool.Decides.{nat_tests}
@@ -24,17 +24,17 @@ use Rattle.model_prims.proofs.KnownLemmas.{wanted_known, truth_known}
 use Rattle.model_lists.specs.Lists.{StobjList, Value, Pairs, End, Item, item, with_item, resized, pairs_of, value_at, without_key, scalar_of, size}
 use Rattle.model_lists.specs.Types.{meets}
 use Rattle.model_lists.specs.Layouts.{Layout, Scalar, Array, Hash, Children, NoField, Field}
-use Rattle.model_lists.specs.Generated.{Effect, Refuses, Reads, Writes, is_index, is_up_to, most_elements, when, with_key, accessed, changed, lengthened, hash_read, hash_bound, hash_looked_up, hash_put, hash_removed}
+use Rattle.model_lists.specs.Effects.{Effect, Refuses, Reads, Writes, is_index, is_up_to, most_elements, when, with_key, accessed, changed, lengthened, hash_read, hash_bound, hash_looked_up, hash_put, hash_removed}
 use Rattle.model_terms.specs.declared.role.Role.{Role}
 use Rattle.model_terms.specs.declared.role.Role.TheVariants as role
-use Rattle.model_eval.specs.Generated.{effect}
+use Rattle.model_eval.specs.GeneratedCalls.{effect}
 use Rattle.model_accepted.proofs.AcceptLemmas.{true_false}
-use Rattle.model_follows.specs.Worlds.{LayoutSymbols, PairSymbols, ListSymbols}
+use Rattle.model_follows.specs.FollowedWorlds.{LayoutSymbols, PairSymbols, ListSymbols}
 use Rattle.model_follows.proofs.EffectThings.{item_known, with_known, resized_known, value_known, without_known}
 use Rattle.model_made_logic.specs.Known.{Grows}
 use Rattle.model_made_logic.proofs.KnownLemmas.{grows_same}
 
--- ---- functions of concrete objects
+-- ---- functions of concrete stobjs
 
 abbrev pub EachSymbols : (ℕ → Type 0) → List (Object ℕ) → Type 0
 EachSymbols P [] = Unit {0}

@@ -13,22 +13,22 @@ use Rattle.model_prims.specs.declared.prim.Prim.{Prim}
 use Rattle.model_prims.proofs.GivenLemmas.{gives_known}
 use Rattle.model_lists.specs.Lists.{item}
 use Rattle.model_lists.specs.Layouts.{field_layout}
-use Rattle.model_lists.specs.Generated.{Effect, Refuses, Reads, Writes}
+use Rattle.model_lists.specs.Effects.{Effect, Refuses, Reads, Writes}
 use Rattle.model_terms.specs.Cores.{Core, Cores, Reached, Var, Const, If, Let, Mv, MvLet, StobjLet, WithLocal, MustBeEqual, Call, none, more, reached}
 use Rattle.model_terms.specs.Worlds.{World, Definition, FunctionOfAbstract, GeneratedFunction, definition, Primitive, Defined, Macro, Constant, Concrete, Generated, Abstract, OfAbstract, Named, Signed}
 use Rattle.model_terms.specs.declared.role.AbstractRole.{AbstractRole}
 use Rattle.model_terms.specs.declared.role.AbstractRole.TheVariants as abstract_role
-use Rattle.model_eval.specs.Outcomes.{Shown, Plain, Stobj, Guard, Steps, Stobjs, State, Outcome, Gives, Stops, Unknown, then_with, with_state, cut_at, one_more_call, counting, stops_here}
-use Rattle.model_eval.specs.Scopes.{Variables, variable_in, bound, single, plain, ordinary, first_stobj, inner_variables, list_of}
-use Rattle.model_eval.specs.Worlds.{new_list}
-use Rattle.model_eval.specs.Generated.{effect, effected, list_or_none}
-use Rattle.model_eval.specs.Children.{Loan, is_reached, loan_values, are_twins, put_into_parent}
+use Rattle.model_eval.specs.Outcomes.{Shown, Plain, StobjNamed, Guard, Steps, Stobjs, State, Outcome, Gives, Stops, Unknown, then_with, with_state, cut_at, one_more_call, counting, stops_here}
+use Rattle.model_eval.specs.Variables.{Variables, variable_in, bound, single, plain, ordinary, first_stobj, inner_variables, list_of}
+use Rattle.model_eval.specs.StobjLayouts.{new_list}
+use Rattle.model_eval.specs.GeneratedCalls.{effect, effected, list_or_none}
+use Rattle.model_eval.specs.Lending.{Loan, is_reached, loan_values, are_twins, put_into_parent}
 use Rattle.model_eval.specs.ListsKeeping.{lists_keeping, inner_state, back, returned}
 use Rattle.model_eval.specs.Checked.{checked_rules, checked_primitive, primitive_ended, checked_export, inside_after}
-use Rattle.model_eval.specs.Evaluated.{Rules, Evaluator, is_false, scoped, guarded, of_abstract, by_definition, exec_called, called, in_order, leaf, leaf_or, loan_of, borrowing, borrowed_from, borrowed, all_borrowed, put_back, lending, loaned_variables, producing, with_loans, with_fresh, opened, evaluated}
+use Rattle.model_eval.specs.Evaluated.{Rules, Evaluator, is_false, scoped, with_guard, of_abstract, by_definition, exec_called, called, in_order, leaf, leaf_or, loan_of, borrowing, borrowed_from, borrowed, all_borrowed, put_back, lending, loaned_variables, producing, with_loans, with_fresh, opened, evaluated}
 use Rattle.model_accepted.specs.Threaded.{layout_of}
 use Rattle.model_expansion_forms.specs.Nodes.{AllNodes, HasConstant, IsBelow}
-use Rattle.model_follows.specs.Worlds.{LayoutSymbols, KnowsList}
+use Rattle.model_follows.specs.FollowedWorlds.{LayoutSymbols, KnowsList}
 use Rattle.model_follows.specs.Follows.{KnowsShown, KnowsAll}
 use Rattle.model_follows.proofs.ThingLemmas.{knows_more}
 use Rattle.model_follows.proofs.EffectFollowing.{initial_known}
@@ -107,7 +107,7 @@ module _ (w : World) (n : ℕ) (two : 2 ≤ n) (world : KnowsWorld w n) (package
   abbrev EvEnds : Evaluator ℕ → Type 0
   EvEnds ev = (form : Core) (variables : Variables ℕ) (s : State ℕ) → KnowsForm n form → n ≤ size s → KnowsVariables (size s) variables → KnowsStobjs (size s) s.stobjs → Ends s.symbols (ev form variables s)
 
-  -- ---- primitives and functions of objects
+  -- ---- primitives and functions of stobjs
 
   primitive_ends : (f : ℕ) (values : List (Shown ℕ)) (s : State ℕ) (a : Applied) → KnowsStobjs (size s) s.stobjs → GrowsTo (record { packages = packages; symbols = s.symbols }) a
       → ((o : Object ℕ) (symbols : List QualifiedName) → a ≡ prims.Gives o symbols → Knows (length symbols) o) → Ends s.symbols (primitive_ended f values s a)
@@ -144,14 +144,14 @@ module _ (w : World) (n : ℕ) (two : 2 ≤ n) (world : KnowsWorld w n) (package
   layout_known m x l = layout_more n m l (layout_of w x) (world.layouts x)
 
   ends_generated : (g : GeneratedFunction) (values : List (Shown ℕ)) (s : State ℕ) → n ≤ size s → KnowsAll (size s) values → KnowsStobjs (size s) s.stobjs
-      → Ends s.symbols (effected lists_keeping g.name values (first_stobj values) s (effect by_number g.role (field_layout (unwrap_or g.field 0) (layout_of w g.object)) (unwrap_or g.field 0) (ordinary values) (list_or_none lists_keeping s.stobjs (first_stobj values))))
+      → Ends s.symbols (effected lists_keeping g.name values (first_stobj values) s (effect by_number g.role (field_layout (unwrap_or g.field 0) (layout_of w g.stobj)) (unwrap_or g.field 0) (ordinary values) (list_or_none lists_keeping s.stobjs (first_stobj values))))
   ends_generated g values s l v h =
       let P : (ℕ → Type 0) = λ t. t < size s in
       let at_nil : nil < size s = omega (arith, two, l) in
       ends_effected g.name values (first_stobj values) s _ h
       (effect_known P (omega (arith, two, l)) at_nil (unwrap_or g.field 0) (ordinary values) (list_or_none lists_keeping s.stobjs (first_stobj values))
       (λ k. argument_known (size s) at_nil (ordinary values) (ordinary_known (size s) values v) k) (read_known (size s) s.stobjs (first_stobj values) h) g.role _
-      (layout_field_known P (unwrap_or g.field 0) (layout_of w g.object) (layout_known (size s) g.object l)))
+      (layout_field_known P (unwrap_or g.field 0) (layout_of w g.stobj) (layout_known (size s) g.stobj l)))
 
   -- ---- calls
 
@@ -165,7 +165,7 @@ module _ (w : World) (n : ℕ) (two : 2 ≤ n) (world : KnowsWorld w n) (package
         ends_back formals values s _ h
         (e form (inner_variables formals values) (inner_state formals values s) f l (inner_known (size s) formals values v) (inner_stobjs_known (size s) formals values s.stobjs h))
 
-    ends_guarded : (name : ℕ) (formals : List ℕ) (guard : Core) (values : List (Shown ℕ)) (go : State ℕ → Outcome ℕ) → KnowsForm n guard → CallEnds values go → CallEnds values (guarded rules ev name formals guard values go)
+    ends_guarded : (name : ℕ) (formals : List ℕ) (guard : Core) (values : List (Shown ℕ)) (go : State ℕ → Outcome ℕ) → KnowsForm n guard → CallEnds values go → CallEnds values (with_guard rules ev name formals guard values go)
     ends_guarded name formals guard values go f k s l v h =
         ends_then s.symbols _ _ (ends_scoped formals values guard f s l v h)
         (λ test after longer known objects. ends_if after.symbols (is_false rules test) _ _ (stay after objects) (k after (omega (arith, l, longer)) (all_more (size s) (size after) longer values v) objects))
@@ -237,7 +237,7 @@ module _ (w : World) (n : ℕ) (two : 2 ≤ n) (world : KnowsWorld w n) (package
     ends_borrowed_from : (child : ℕ) (by : Reached) (p : Shown ℕ) (variables : Variables ℕ) (go : Loan ℕ → State ℕ → Outcome ℕ) (m : ℕ) (s : State ℕ) → m ≤ size s → KnowsStobjs (size s) s.stobjs
         → ((loan : Loan ℕ) → GoEnds m (go loan)) → Ends s.symbols (borrowed_from rules child by p variables go s)
     ends_borrowed_from child by (Plain o) variables go m s l h k = stay s h
-    ends_borrowed_from child by (Stobj p) variables go m s l h k =
+    ends_borrowed_from child by (StobjNamed p) variables go m s l h k =
         let loan = loan_of rules child p by variables in
         ends_counting m s (borrowing rules by.accessor loan (go loan)) l h (λ after longer objects.
         ends_if after.symbols (is_reached loan.index (item loan.field (list_of after.stobjs loan.parent))) (go loan after) (stops_here (Guard by.accessor (loan_values loan)) after) (k loan after longer objects) (stay after objects))
@@ -278,13 +278,13 @@ module _ (w : World) (n : ℕ) (two : 2 ≤ n) (world : KnowsWorld w n) (package
         (λ values after longer known objects.
         e consumer (bound vars values variables) after g (omega (arith, l, longer)) (bound_known (size after) vars values variables known (variables_more (size s) (size after) longer variables v)) objects))
 
-    -- ---- local objects
+    -- ---- local stobjs
 
     ends_fresh : (x : ℕ) (producer : Core) (variables : Variables ℕ) → KnowsForm n producer
         → (s : State ℕ) → n ≤ size s → KnowsVariables (size s) variables → KnowsStobjs (size s) s.stobjs → Ends s.symbols (with_fresh rules ev x (Some (new_list w x)) producer variables s)
     ends_fresh x producer variables f s l v h =
         ends_unmade s.symbols _
-        (e producer ((x, Stobj x) ∷ variables) (record s { stobjs = (x, new_list w x) ∷ s.stobjs }) f l (tt, v) (initial_known (λ t. t < size s) (layout_of w x) (layout_known (size s) x l), h))
+        (e producer ((x, StobjNamed x) ∷ variables) (record s { stobjs = (x, new_list w x) ∷ s.stobjs }) f l (tt, v) (initial_known (λ t. t < size s) (layout_of w x) (layout_known (size s) x l), h))
 
     -- ---- forms
 
@@ -311,9 +311,9 @@ module _ (w : World) (n : ℕ) (two : 2 ≤ n) (world : KnowsWorld w n) (package
     ends_opened (StobjLet names forms vars producer consumer) variables s f l v h =
         ends_all_borrowed names forms variables [] _ (size s)
         (λ loans u longer objects. ends_with_loans vars producer consumer variables loans f.2 f.3 u (omega (arith, l, longer)) (variables_more (size s) (size u) longer variables v) objects) s (omega arith) h
-    ends_opened (WithLocal object names producer body) variables s f l v h =
+    ends_opened (WithLocal stobj names producer body) variables s f l v h =
         ends_then s.symbols _ _
-        (ends_counting (size s) s _ (omega arith) h (λ u longer objects. ends_fresh object producer variables f.1 u (omega (arith, l, longer)) (variables_more (size s) (size u) longer variables v) objects))
+        (ends_counting (size s) s _ (omega arith) h (λ u longer objects. ends_fresh stobj producer variables f.1 u (omega (arith, l, longer)) (variables_more (size s) (size u) longer variables v) objects))
         (ends_bound names body variables f.2 (size s) l v)
     ends_opened (MustBeEqual logic exec) variables s f l v h = e logic variables s f.1 l v h
     ends_opened (Call g actuals) variables s f l v h =
@@ -333,7 +333,7 @@ module _ (w : World) (n : ℕ) (two : 2 ≤ n) (world : KnowsWorld w n) (package
   leaf_known m (Mv parts) variables l f v = tt
   leaf_known m (MvLet names form body) variables l f v = tt
   leaf_known m (StobjLet names forms vars producer consumer) variables l f v = tt
-  leaf_known m (WithLocal object names producer body) variables l f v = tt
+  leaf_known m (WithLocal stobj names producer body) variables l f v = tt
   leaf_known m (MustBeEqual logic exec) variables l f v = tt
   leaf_known m (Call g actuals) variables l f v = tt
 

@@ -14,21 +14,19 @@ use Rattle.model_terms.specs.Worlds as worlds
 use Rattle.model_terms.specs.Worlds.{World, Definition, Signature, Named, Macro, Constant, Defined, AbstractDescriptor}
 use Rattle.model_terms.specs.Faults.{constant_fault}
 use Rattle.model_eval.specs.Outcomes.{Outcome, Gives, Stops, Unknown, here}
-use Rattle.model_eval.specs.Scopes.{single}
+use Rattle.model_eval.specs.Variables.{single}
 use Rattle.model_eval.specs.Checked.{checked, begun}
 use Rattle.model_expansion.specs.Words.{in_package_word}
-use Rattle.model_expansion.specs.Forms.{elements, each_of, symbol}
+use Rattle.model_expansion.specs.Forms.{elements, each_of, symbol, symbol_or_nil}
 use Rattle.model_expansion.specs.Faults.{Refusal, BadShape, Expand, Thread, UnknownPackage, PackageExists}
 use Rattle.model_expansion.specs.Expansion.{Setting, Progress, evaluated_to, Expanded, Makes, Fails, then_make, expanded, expanded_guard}
 use Rattle.model_expansion_forms.specs.Rows.{HasRowFunctions, AreShapedItems, AreKnownItems}
 use Rattle.model_stobjs.specs.Answers.{EventResult, Grants, Refuses, Halts, then_grant, unless, needing, expanding}
-use Rattle.model_stobjs.specs.Objects as objects
-use Rattle.model_stobjs.specs.Objects.{WrittenObject, written_object, MadeNames, names_made, ShapedField, shaped_fields, symbol_or_nil, object_makings, room_for, descriptor_made, named_descriptor, names_then, written_then, descriptor_read}
+use Rattle.model_stobjs.specs.Descriptors as objects
+use Rattle.model_stobjs.specs.Descriptors.{WrittenStobj, written_stobj, MadeNames, names_made, ShapedField, shaped_fields, stobj_makings, room_for, descriptor_made, named_descriptor, names_then, written_then, descriptor_read}
 use Rattle.model_stobjs.specs.Abstracts as abstracts
 use Rattle.model_stobjs.specs.Abstracts.{WrittenAbstract, written_abstract, slots, makings, filled, function_refusal, made_then, abstract_then, abstract_read, abstract_entries}
-use Rattle.model_events.specs.Constants as constants
 use Rattle.model_events.specs.Constants.{valued, constant_evaluated, constant_value, name_and_form, constant_then, constant_read, text_and_form, clash_refusal, exists_already, package_of, importing, package_then, package_read, current_read, only_text, current_then, visible_package}
-use Rattle.model_events.specs.Macros as macros
 use Rattle.model_events.specs.Macros.{WrittenMacro, written_macro, macro_formals, body_then, macro_then, macro_read}
 use Rattle.model_events.specs.Functions as functions
 use Rattle.model_events.specs.Functions.{Draft, drafts_of, Candidate, candidate_expanded, all_expanded, with_names, signatures, signed, defined, members, ruled, candidates_then, drafts_then, functions_then, written_functions, functions_read}
@@ -118,7 +116,7 @@ imports_known symbols [] h k s e = cc
 imports_known symbols (n ∷ ns) h zero s e = (n, symbol-at symbols n h.0 ∙ e)
 imports_known symbols (n ∷ ns) h (suc k) s e = imports_known symbols ns h.1 k s e
 
--- ---- the current package, and objects
+-- ---- the current package, and stobjs
 
 module _ (w : World) (packages : List Package) where
   pub current_leaves : (d : Object ℕ) (p : Progress) → Leaves packages Whatever p.symbols (current_read packages d p)
@@ -133,7 +131,7 @@ module _ (w : World) (packages : List Package) where
       go None = grows_same packages p.symbols
       go (Some name) = by_name name (visible_package packages name)
 
-  made_leaves : (o : WrittenObject) (fs : List ShapedField) (m : MadeNames) (p : Progress) → Grows packages p.symbols m.symbols
+  made_leaves : (o : WrittenStobj) (fs : List ShapedField) (m : MadeNames) (p : Progress) → Grows packages p.symbols m.symbols
       → ((numbers : List ℕ) → KnowsFields (length m.symbols) (objects.fields_with fs numbers)) → Leaves packages DescriptorKnown p.symbols (descriptor_made w o fs m p)
   made_leaves o fs m p g k =
       let after : Progress = record p { symbols = m.symbols } in
@@ -144,12 +142,12 @@ module _ (w : World) (packages : List Package) where
   pub descriptor_leaves : (d : Object ℕ) (p : Progress) → 2 ≤ size p → Knows (size p) d → Leaves packages DescriptorKnown p.symbols (descriptor_read w packages d p)
   unfolding descriptor_read
   descriptor_leaves d p two h =
-      leaves_needing packages (ObjectWritten (size p) two) DescriptorKnown (written_object w p.symbols d) _ (written_then w packages) p (object_written (size p) two w p.symbols d h) (λ o k.
+      leaves_needing packages (ObjectWritten (size p) two) DescriptorKnown (written_stobj w p.symbols d) _ (written_then w packages) p (object_written (size p) two w p.symbols d h) (λ o k.
       leaves_unless packages DescriptorKnown _ (names_then w packages o (shaped_fields w o.fields)) p (λ good.
       let fs = shaped_fields w o.fields in
       let shaped : EachOne (FieldShaped (size p) two) fs = fields_shaped (size p) two w o.fields k.1 in
-      let g = names_grow packages o.renaming (object_makings p.symbols (symbol_or_nil o.name) fs) p.symbols (object_from (size p) two p.symbols o.name fs k.0 shaped) in
-      made_leaves o fs (names_made packages o.renaming (object_makings p.symbols (symbol_or_nil o.name) fs) p.symbols) p g (λ numbers. fields_more (size p) _ g.longer _ (fields_known (size p) two fs numbers shaped))))
+      let g = names_grow packages o.renaming (stobj_makings p.symbols (symbol_or_nil o.name) fs) p.symbols (object_from (size p) two p.symbols o.name fs k.0 shaped) in
+      made_leaves o fs (names_made packages o.renaming (stobj_makings p.symbols (symbol_or_nil o.name) fs) p.symbols) p g (λ numbers. fields_more (size p) _ g.longer _ (fields_known (size p) two fs numbers shaped))))
 
   pub abstract_leaves : (d : Object ℕ) (p : Progress) → 2 ≤ size p → Knows (size p) d → Leaves packages Whatever p.symbols (abstract_read w packages d p)
   unfolding abstract_read
@@ -186,8 +184,8 @@ module _ (x : Setting) (n : ℕ) (two : 2 ≤ n) (known : KnowsDefinitions x.wor
     unfolding constant_read
     constant_leaves d p l h =
         leaves_needing x.packages (FormKnown (size p) (omega (arith, two, l))) NewKnown (option_and_then name_and_form (elements d)) _ (constant_then x) p (constant_form (size p) (omega (arith, two, l)) d h) (λ c k.
-        leaves_unless x.packages NewKnown _ (constant_value x c.1 (λ value. Grants (Constant (constants.number c.0) value ∷ []))) p (λ free.
-        value_leaves NewKnown c.1 (λ value. Grants (Constant (constants.number c.0) value ∷ [])) p l k (λ o q longer good. (grows_same x.packages q.symbols, (good, tt)))))
+        leaves_unless x.packages NewKnown _ (constant_value x c.1 (λ value. Grants (Constant (symbol_or_nil c.0) value ∷ []))) p (λ free.
+        value_leaves NewKnown c.1 (λ value. Grants (Constant (symbol_or_nil c.0) value ∷ [])) p l k (λ o q longer good. (grows_same x.packages q.symbols, (good, tt)))))
 
     package_added : (name : List ℕ) (value : Object ℕ) (p : Progress) → 2 ≤ size p → Knows (size p) value → Leaves x.packages (MayBeAdded x.packages) p.symbols (importing x.packages name value p)
     package_added name value p l h =
@@ -216,7 +214,7 @@ module _ (x : Setting) (n : ℕ) (two : 2 ≤ n) (known : KnowsDefinitions x.wor
         leaves_needing x.packages (MacroKnown (size p) (omega (arith, two, l))) NewKnown (written_macro d) _ (macro_then x) p (macro_known (size p) (omega (arith, two, l)) d h) (λ m k.
         leaves_unless x.packages NewKnown _ (λ after. expanding (expanded x m.body after) (body_then x.world m)) p (λ free.
         leaves_expanding x.packages KnowsForm NewKnown p.symbols (expanded x m.body p) (body_then x.world m) (form_expands x n two known rows m.body p l k.1) (λ f after longer good.
-        leaves_unless x.packages NewKnown _ (Grants (Macro (macros.number m.name) (macro_formals m.formals) f ∷ [])) after (λ ruled.
+        leaves_unless x.packages NewKnown _ (Grants (Macro (symbol_or_nil m.name) (macro_formals m.formals) f ∷ [])) after (λ ruled.
         let defaults = macro_defaults (size p) (omega (arith, two, l)) m.formals k.0 in
         (grows_same x.packages after.symbols, ((defaults_more (size p) (size after) longer _ defaults.0, defaults_more (size p) (size after) longer _ defaults.1, good), tt))))))
 

@@ -10,12 +10,12 @@ use Rattle.model_terms.specs.Cores.{Core}
 use Rattle.model_terms.specs.Faults.{formal_names}
 use Rattle.model_terms.specs.Worlds.{OptionalFormal, MacroFormals, Definition, Primitive, Defined, Macro, Constant, Concrete, Generated, Abstract, OfAbstract, Named, Signed, definition}
 use Rattle.model_eval.specs.Outcomes.{Steps, Outcome, Gives, Stops, Unknown}
-use Rattle.model_eval.specs.Scopes.{bound, plain, single}
+use Rattle.model_eval.specs.Variables.{bound, plain, single}
 use Rattle.model_eval.specs.Checked.{begun}
 use Rattle.model_expansion.specs.Forms.{elements}
 use Rattle.model_expansion.specs.Faults.{ExpandFault, Arity, MacroStopped}
-use Rattle.model_expansion.specs.Layers.{Row, core_row, macro_row, GuardItem, Holds, Meets, Part, Form, Ready, Rest, Guard, Found, Leaf, Node, CallNode, Made, Again, Stays, made_of}
-use Rattle.model_expansion.specs.Expansion.{Setting, Progress, Expanded, Makes, Fails, then_make, counting, macro_values, Look, Stands, Bad, Use, UserUse, Settle, settles, out_of_steps, again, core_look, call_look, arity_of, function_look, defined_look, macro_look, headed_look, list_look, look_at, built, body_value, used, looked, settled, settle, row_found, joined, ready_fault, ready_found, item_part, guard_found, part_found, Grow, grown_all, grown_found, grown, deepest_core, expanded, expanded_guard}
+use Rattle.model_expansion.specs.Layers.{MacroRow, core_row, macro_row, GuardItem, FormHolds, Meets, Part, Form, Ready, Rest, Guard, Found, Leaf, Node, CallNode, Made, Again, Stays, made_of}
+use Rattle.model_expansion.specs.Expansion.{Setting, Progress, Expanded, Makes, Fails, then_make, counting_expansion, macro_values, Look, Stands, Bad, Use, UserUse, Settle, settles, out_of_steps, again, core_look, call_look, arity_of, function_look, defined_look, macro_look, headed_look, list_look, look_at, built, body_value, used, looked, settled, settle, row_found, core_of_node, ready_fault, ready_found, item_part, guard_found, part_found, Grow, grown_all, grown_found, grown, deepest_core, expanded, expanded_guard}
 use Rattle.model_expansion_laws.proofs.CountLemmas.{shaped, with_values}
 use Rattle.model_expansion_forms.specs.Nodes.{EachNode, HasForms, HasSeveral, HasConstant, IsBelow}
 use Rattle.model_expansion_forms.specs.Rows.{HasRowFunctions, AreShapedItems, AreKnownItems, AllKnown, AreKnownDefaults, IsKnownValue, Supplies}
@@ -118,7 +118,7 @@ module _ (x : Setting) (n : ℕ) (two : 2 ≤ n) (known : KnowsDefinitions x.wor
   LookKnown m (Use s row d) = IsGoodRow x.world (IsBelow m) row × Knows m d
   LookKnown m (UserUse s formals body d) = ((name : ℕ) × (definition x.world s ≡ Some (Macro name formals body))) × Knows m d
 
-  row_makes : (m : ℕ) → n ≤ m → (symbols : List QualifiedName) (row : Row) (os : Option (List (Object ℕ))) → IsGoodRow x.world (IsBelow m) row → AllHaveIfAny (IsBelow m) os → MadeIfAny m (option_and_then (made_of symbols row) os)
+  row_makes : (m : ℕ) → n ≤ m → (symbols : List QualifiedName) (row : MacroRow) (os : Option (List (Object ℕ))) → IsGoodRow x.world (IsBelow m) row → AllHaveIfAny (IsBelow m) os → MadeIfAny m (option_and_then (made_of symbols row) os)
   row_makes m l symbols row None g h = tt
   row_makes m l symbols row (Some os) g h =
       any_known m (made_of symbols row os) (good_made x.world (IsBelow m) symbols (omega (arith, two, l)) (omega (arith, two, l)) rows row os g h)
@@ -153,11 +153,11 @@ module _ (x : Setting) (n : ℕ) (two : 2 ≤ n) (known : KnowsDefinitions x.wor
   look_defined m s d (Some (Named name formals)) e h = look_function m s d (arity_of (Some (Named name formals))) h
   look_defined m s d (Some (Signed name formals signature executable)) e h = look_function m s d (arity_of (Some (Signed name formals signature executable))) h
 
-  look_macro : (m : ℕ) (symbols : List QualifiedName) (s : ℕ) (d : Object ℕ) (row : Option Row) → IsGoodRowIfAny x.world (IsBelow m) row → Knows m d → LookKnown m (macro_look x symbols s d row)
+  look_macro : (m : ℕ) (symbols : List QualifiedName) (s : ℕ) (d : Object ℕ) (row : Option MacroRow) → IsGoodRowIfAny x.world (IsBelow m) row → Knows m d → LookKnown m (macro_look x symbols s d row)
   look_macro m symbols s d None g h = look_defined m s d (definition x.world s) refl h
   look_macro m symbols s d (Some row) g h = (g, h)
 
-  look_headed : (m : ℕ) → n ≤ m → (symbols : List QualifiedName) (s : ℕ) (d : Object ℕ) (row : Option Row) → IsGoodRowIfAny x.world (IsBelow m) row → Knows m d → LookKnown m (headed_look x symbols s d row)
+  look_headed : (m : ℕ) → n ≤ m → (symbols : List QualifiedName) (s : ℕ) (d : Object ℕ) (row : Option MacroRow) → IsGoodRowIfAny x.world (IsBelow m) row → Knows m d → LookKnown m (headed_look x symbols s d row)
   look_headed m l symbols s d None g h = look_macro m symbols s d (macro_row s) (macro_good x.world (IsBelow m) rows (omega (arith, two, l)) s) h
   look_headed m l symbols s d (Some row) g h =
       look_core m s (option_and_then (made_of symbols row) (elements d)) (row_makes m l symbols row (elements d) g (elements_have (IsBelow m) d h))
@@ -211,7 +211,7 @@ module _ (x : Setting) (n : ℕ) (two : 2 ≤ n) (known : KnowsDefinitions x.wor
       values_grow p l s name formals body e (macro_values p.symbols formals os)
       (values_have (IsBelow (size p)) (omega (arith, two, l)) (omega (arith, two, l)) p.symbols formals (defaults_have (size p) l formals.optional definition_known.0) (defaults_have (size p) l (unwrap_or formals.keys []) definition_known.1) os h)
 
-  counting_grows : (p : Progress) (go : Progress → Expanded Made) → MadeGrows p.symbols (go (record p { calls = p.calls + 1; outer = p.outer + 1 })) → MadeGrows p.symbols (counting x.steps go p)
+  counting_grows : (p : Progress) (go : Progress → Expanded Made) → MadeGrows p.symbols (go (record p { calls = p.calls + 1; outer = p.outer + 1 })) → MadeGrows p.symbols (counting_expansion x.steps go p)
   counting_grows p go h = by_test (nat_lt p.calls x.steps)
     where
       by_test : (b : Bool) → MadeGrows p.symbols (if b then go (record p { calls = p.calls + 1; outer = p.outer + 1 }) else Fails (MacroStopped Steps None) p)
@@ -262,12 +262,12 @@ module _ (x : Setting) (n : ℕ) (two : 2 ≤ n) (known : KnowsDefinitions x.wor
   ready_grows f (Some fault) p = grows_same x.packages p.symbols
 
   item_good : (m : ℕ) (g : GuardItem) → IsGoodItem x.world (IsBelow m) g → IsGoodPart x.world (IsBelow m) (item_part x g)
-  item_good m (Holds o) h = h
+  item_good m (FormHolds o) h = h
   item_good m (Meets f) h = h
 
   guard_grows : (left : ℕ) (gs : List GuardItem) (p : Progress) → n ≤ size p → AreGoodItems x.world (IsBelow (size p)) gs → FoundGrows p.symbols (guard_found x left gs p)
   guard_grows left [] p l h = (grows_same x.packages p.symbols, tt)
-  guard_grows left (Holds o ∷ []) p l h = settle_grows o p l h.0
+  guard_grows left (FormHolds o ∷ []) p l h = settle_grows o p l h.0
   guard_grows left (Meets f ∷ []) p l h = ready_grows f (ready_fault x f left) p
   guard_grows left (g ∷ (k ∷ gs)) p l h = (grows_same x.packages p.symbols, (item_good (size p) g h.0, (h.1, (shaped_const (IsBelow (size p)) (Symbol nil) (omega (arith, two, l)), tt))))
 
@@ -296,7 +296,7 @@ module _ (x : Setting) (n : ℕ) (two : 2 ≤ n) (known : KnowsDefinitions x.wor
     found_grows : (f : Found) (p : Progress) → n ≤ size p → PartsKnown (size p) f → Expands x.packages AnyMade p.symbols (grown_found grow f p)
     found_grows (Leaf f) p l h = (grows_same x.packages p.symbols, tt)
     found_grows (Node k qs) p l h =
-        expands_then x.packages AnyMade AnyMade p.symbols (grown_all grow qs [] p) (λ fs after. Makes (joined k fs) after) (all_grow qs [] p l h) (λ fs after longer any. (grows_same x.packages after.symbols, tt))
+        expands_then x.packages AnyMade AnyMade p.symbols (grown_all grow qs [] p) (λ fs after. Makes (core_of_node k fs) after) (all_grow qs [] p l h) (λ fs after longer any. (grows_same x.packages after.symbols, tt))
 
   grown_grows : (left : ℕ) → GrowGrows (grown x left)
   unfolding grown
@@ -320,7 +320,7 @@ module _ (x : Setting) (n : ℕ) (two : 2 ≤ n) (known : KnowsDefinitions x.wor
 
   shaped_items : (m : ℕ) (gs : List GuardItem) → AreShapedItems gs → AreKnownItems m gs → AreGoodItems x.world (IsBelow m) gs
   shaped_items m [] h k = tt
-  shaped_items m (Holds o ∷ gs) h k = (k.0, shaped_items m gs h.1 k.1)
+  shaped_items m (FormHolds o ∷ gs) h k = (k.0, shaped_items m gs h.1 k.1)
   shaped_items m (Meets f ∷ gs) h k = (shaped_with m f h.0.0 h.0.1 k.0, shaped_items m gs h.1 k.1)
 
   pub guard_expands : (gs : List GuardItem) (p : Progress) → AreShapedItems gs → n ≤ size p → AreKnownItems (size p) gs → FormGrows p.symbols (expanded_guard x gs p)
@@ -329,5 +329,5 @@ module _ (x : Setting) (n : ℕ) (two : 2 ≤ n) (known : KnowsDefinitions x.wor
 
 pub items_more : (m n : ℕ) → m ≤ n → (gs : List GuardItem) → AreKnownItems m gs → AreKnownItems n gs
 items_more m n l [] h = tt
-items_more m n l (Holds o ∷ gs) h = (knows_more m n o l h.0, items_more m n l gs h.1)
+items_more m n l (FormHolds o ∷ gs) h = (knows_more m n o l h.0, items_more m n l gs h.1)
 items_more m n l (Meets f ∷ gs) h = (form_more m n l f h.0, items_more m n l gs h.1)

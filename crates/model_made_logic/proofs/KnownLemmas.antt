@@ -9,11 +9,11 @@ use Rattle.model_prims.specs.Kinds.{by_number}
 use Rattle.model_lists.specs.Types.{ValueType, Anything, Nothing, Integers, Recognized, OneOf, Either, Both, Other}
 use Rattle.model_lists.specs.Lists.{StobjList, item}
 use Rattle.model_lists.specs.Layouts.{Layout, Scalar, Array, Hash, Children, NoField, Field}
-use Rattle.model_eval.specs.Outcomes.{Shown, Plain, Stobj, Stobjs}
-use Rattle.model_eval.specs.Scopes.{Variables, variable_in, bound, single, object_of, outer_value, inner_variables, inner_stobjs, handed_back, list_of, with_list}
-use Rattle.model_eval.specs.Children.{Loan, child_in, with_child_in, with_child, lent, put_into_parent}
+use Rattle.model_eval.specs.Outcomes.{Shown, Plain, StobjNamed, Stobjs}
+use Rattle.model_eval.specs.Variables.{Variables, variable_in, bound, single, object_of, outer_value, inner_variables, inner_stobjs, handed_back, list_of, with_list}
+use Rattle.model_eval.specs.Lending.{Loan, child_in, with_child_in, with_child, lent, put_into_parent}
 use Rattle.model_eval.specs.ListsKeeping.{list_restored, all_put}
-use Rattle.model_follows.specs.Worlds.{TypeSymbols, LayoutSymbols, KnowsList}
+use Rattle.model_follows.specs.FollowedWorlds.{TypeSymbols, LayoutSymbols, KnowsList}
 use Rattle.model_follows.specs.Follows.{KnowsShown, KnowsAll}
 use Rattle.model_follows.proofs.ThingLemmas.{knows_more, knows_list_more}
 use Rattle.model_follows.proofs.EffectThings.{item_known, with_known}
@@ -23,7 +23,7 @@ use Rattle.model_made_logic.specs.Known.{KnowsStobjs, KnowsVariables, Grows}
 
 pub shown_more : (m n : ℕ) → m ≤ n → (v : Shown ℕ) → KnowsShown m v → KnowsShown n v
 shown_more m n l (Plain o) h = knows_more m n o l h
-shown_more m n l (Stobj x) h = tt
+shown_more m n l (StobjNamed x) h = tt
 
 pub all_more : (m n : ℕ) → m ≤ n → (vs : List (Shown ℕ)) → KnowsAll m vs → KnowsAll n vs
 all_more m n l [] h = tt
@@ -81,7 +81,7 @@ module _ (n : ℕ) (two : 2 ≤ n) where
 
   pub object_known : (v : Shown ℕ) → KnowsShown n v → Knows n (object_of by_number v)
   object_known (Plain o) h = h
-  object_known (Stobj x) h = at_nil
+  object_known (StobjNamed x) h = at_nil
 
 pub last_known : (n : ℕ) (vs : List (Shown ℕ)) (v : Shown ℕ) → KnowsAll n vs → KnowsShown n v → KnowsAll n (vs ++ v ∷ [])
 last_known n [] v h k = (k, tt)
@@ -91,20 +91,20 @@ pub bound_known : (n : ℕ) (xs : List ℕ) (vs : List (Shown ℕ)) (variables :
 bound_known n [] vs variables h k = k
 bound_known n (x ∷ xs) [] variables h k = k
 bound_known n (x ∷ xs) (Plain o ∷ vs) variables h k = (h.0, bound_known n xs vs variables h.1 k)
-bound_known n (x ∷ xs) (Stobj y ∷ vs) variables h k = bound_known n xs vs variables h.1 k
+bound_known n (x ∷ xs) (StobjNamed y ∷ vs) variables h k = bound_known n xs vs variables h.1 k
 
 pub inner_known : (n : ℕ) (xs : List ℕ) (vs : List (Shown ℕ)) → KnowsAll n vs → KnowsVariables n (inner_variables xs vs)
 inner_known n [] vs h = tt
 inner_known n (x ∷ xs) [] h = tt
 inner_known n (x ∷ xs) (Plain o ∷ vs) h = (h.0, inner_known n xs vs h.1)
-inner_known n (x ∷ xs) (Stobj y ∷ vs) h = (tt, inner_known n xs vs h.1)
+inner_known n (x ∷ xs) (StobjNamed y ∷ vs) h = (tt, inner_known n xs vs h.1)
 
 pub outer_known : (n : ℕ) (xs : List ℕ) (actuals vs : List (Shown ℕ)) → KnowsAll n vs → KnowsAll n (map (outer_value xs actuals) vs)
 outer_known n xs actuals [] h = tt
 outer_known n xs actuals (Plain o ∷ vs) h = (h.0, outer_known n xs actuals vs h.1)
-outer_known n xs actuals (Stobj y ∷ vs) h = (tt, outer_known n xs actuals vs h.1)
+outer_known n xs actuals (StobjNamed y ∷ vs) h = (tt, outer_known n xs actuals vs h.1)
 
--- ---- lists of objects
+-- ---- lists of stobjs
 
 pub list_known : (n : ℕ) (os : Stobjs ℕ) (x : ℕ) → KnowsStobjs n os → KnowsList n (list_of os x)
 list_known n [] x h = tt
@@ -126,13 +126,13 @@ pub inner_stobjs_known : (n : ℕ) (xs : List ℕ) (vs : List (Shown ℕ)) (os :
 inner_stobjs_known n [] vs os h = tt
 inner_stobjs_known n (x ∷ xs) [] os h = tt
 inner_stobjs_known n (x ∷ xs) (Plain o ∷ vs) os h = inner_stobjs_known n xs vs os h
-inner_stobjs_known n (x ∷ xs) (Stobj y ∷ vs) os h = (list_known n os y h, inner_stobjs_known n xs vs os h)
+inner_stobjs_known n (x ∷ xs) (StobjNamed y ∷ vs) os h = (list_known n os y h, inner_stobjs_known n xs vs os h)
 
 pub handed_known : (n : ℕ) (xs : List ℕ) (vs : List (Shown ℕ)) (inner os : Stobjs ℕ) → KnowsStobjs n inner → KnowsStobjs n os → KnowsStobjs n (handed_back xs vs inner os)
 handed_known n [] vs inner os g h = h
 handed_known n (x ∷ xs) [] inner os g h = h
 handed_known n (x ∷ xs) (Plain o ∷ vs) inner os g h = handed_known n xs vs inner os g h
-handed_known n (x ∷ xs) (Stobj y ∷ vs) inner os g h = handed_known n xs vs inner (with_list y (list_of inner x) os) g (with_list_known n y (list_of inner x) os (list_known n inner x g) h)
+handed_known n (x ∷ xs) (StobjNamed y ∷ vs) inner os g h = handed_known n xs vs inner (with_list y (list_of inner x) os) g (with_list_known n y (list_of inner x) os (list_known n inner x g) h)
 
 pub restored_known : (n : ℕ) (x : Option ℕ) (before os : Stobjs ℕ) → KnowsStobjs n before → KnowsStobjs n os → KnowsStobjs n (list_restored x before os)
 restored_known n None before os g h = h
@@ -175,6 +175,6 @@ pub all_put_known : (n : ℕ) (loans : List (Loan ℕ)) (os : Stobjs ℕ) → Kn
 all_put_known n [] os h = h
 all_put_known n (l ∷ ls) os h = all_put_known n ls (put_into_parent l os) (put_known n l os h)
 
-pub loaned_known : (n : ℕ) (loans : List (Loan ℕ)) (vs : Variables ℕ) → KnowsVariables n vs → KnowsVariables n (map (λ (l : Loan ℕ). (l.child, Stobj l.child)) loans ++ vs)
+pub loaned_known : (n : ℕ) (loans : List (Loan ℕ)) (vs : Variables ℕ) → KnowsVariables n vs → KnowsVariables n (map (λ (l : Loan ℕ). (l.child, StobjNamed l.child)) loans ++ vs)
 loaned_known n [] vs h = h
 loaned_known n (l ∷ ls) vs h = (tt, loaned_known n ls vs h)

@@ -9,7 +9,7 @@ use Rattle.model_books_laws.proofs.CommandLemmas.{commands_count}
 use Rattle.model_follows.specs.Follows.{table_of}
 use Rattle.model_terms.specs.Worlds.{Function, Defined, Generated, OfAbstract, definition}
 use Rattle.model_terms.specs.Sites.{one_ordinary}
-use Rattle.model_follows.specs.Worlds.{IsSuited}
+use Rattle.model_follows.specs.FollowedWorlds.{IsSuited}
 use Rattle.model_follows.specs.Abstract.{abstract_of}
 use Rattle.model_made_logic.proofs.KnownLemmas.{list_known}
 use Rattle.model_books.specs.Opening.{Session, opening_session}
@@ -23,7 +23,7 @@ use Rattle.model_expansion.specs.Expansion.{at_start}
 use Rattle.model_expansion_forms.proofs.LawLemmas.{forms_are_known, forms_are_well_called}
 use Rattle.model_books.specs.Commands.{live_scope}
 use Rattle.model_made_logic.specs.Known.{IsKnownSession}
-use Rattle.model_made_logic.specs.Laws.{AcceptedFormsAreSuited, DefinitionsSupply, MadeObjectsAreStocked, MadeSessionsAreKnown, MadeWorldsAreFollowed}
+use Rattle.model_made_logic.specs.Laws.{AcceptedFormsAreSuited, DefinitionsSupply, MadeStobjsAreStocked, MadeSessionsAreKnown, MadeWorldsAreFollowed}
 use Rattle.model_made_logic.proofs.WorldLemmas.{definitions_world}
 use Rattle.model_made_logic.proofs.ExpansionLemmas.{world_supplies}
 use Rattle.model_made_logic.proofs.CommandLemmas.{command_known, read_known}
@@ -53,18 +53,18 @@ truth_added ps qs old new n a = record {
   at_nil = ap (λ (ss : List QualifiedName). slice_get ss nil) a.1 ∙ slice_get-left old a.0 nil nil_name n.at_nil;
 }
 
-after_truth : (s : Session) → NamesTruth (table_of s.standing.packages s.symbols) → (ts : List Step) → AreRead s ts → NamesTruth (table_of (commanded s ts).standing.packages (commanded s ts).symbols)
+after_truth : (s : Session) → NamesTruth (table_of s.environment.packages s.symbols) → (ts : List Step) → AreRead s ts → NamesTruth (table_of (commanded s ts).environment.packages (commanded s ts).symbols)
 after_truth s n [] read = n
 after_truth s n (t ∷ ts) read =
-    let there = truth_added s.standing.packages s.standing.packages s.symbols t.read n read.0.added in
-    after_truth (after_step s t) (truth_added s.standing.packages (after_step s t).standing.packages t.read (after_step s t).symbols there (commands_count.symbols t.limits (knowing s t.read) t.form)) ts read.1
+    let there = truth_added s.environment.packages s.environment.packages s.symbols t.read n read.0.added in
+    after_truth (after_step s t) (truth_added s.environment.packages (after_step s t).environment.packages t.read (after_step s t).symbols there (commands_count.symbols t.limits (knowing s t.read) t.form)) ts read.1
 
-opening_truth : NamesTruth (table_of opening_session.standing.packages opening_session.symbols)
+opening_truth : NamesTruth (table_of opening_session.environment.packages opening_session.symbols)
 unfolding opening_session opening common_lisp_symbols common_lisp_text
 opening_truth = record { at_truth = refl; at_nil = refl }
 
-made_truth : (s : Session) → IsMade s → NamesTruth (table_of s.standing.packages s.symbols)
-made_truth s m = subst (λ (q : Session). NamesTruth (table_of q.standing.packages q.symbols)) (sym m.2) (after_truth opening_session opening_truth m.0 m.1)
+made_truth : (s : Session) → IsMade s → NamesTruth (table_of s.environment.packages s.symbols)
+made_truth s m = subst (λ (q : Session). NamesTruth (table_of q.environment.packages q.symbols)) (sym m.2) (after_truth opening_session opening_truth m.0 m.1)
 
 pub made_sessions_known : MadeSessionsAreKnown
 made_sessions_known = record {
@@ -73,43 +73,43 @@ made_sessions_known = record {
   table = λ s m. (made_known s m).table;
   truth = made_truth;
   live = λ s m x. list_known (length s.symbols) s.stobjs x (made_known s m).live;
-  world = λ s m. definitions_world s.standing.world _ (made_known s m).definitions;
-  supplies = λ s k m. world_supplies (setting s.standing k) _ (made_known s m).enough (made_known s m).definitions;
+  world = λ s m. definitions_world s.environment.world _ (made_known s m).definitions;
+  supplies = λ s k m. world_supplies (setting s.environment k) _ (made_known s m).enough (made_known s m).definitions;
 }
 
--- ---- concrete objects
+-- ---- concrete stobjs
 
-after_stocked : (s : Session) → IsLawfulSession s → IsStocked s.standing.world → (ts : List Step) → IsStocked (commanded s ts).standing.world
+after_stocked : (s : Session) → IsLawfulSession s → IsStocked s.environment.world → (ts : List Step) → IsStocked (commanded s ts).environment.world
 after_stocked s lawful stocked [] = stocked
 after_stocked s lawful stocked (t ∷ ts) =
     let there : IsLawfulSession (knowing s t.read) = record { world = lawful.world; live = lawful.live; fits = lawful.fits } in
     after_stocked (after_step s t) (commands_stay_lawful.command t.limits (knowing s t.read) t.form there) (command_stocked t.limits (knowing s t.read) lawful.world stocked t.form) ts
 
-made_stocked : (s : Session) → IsMade s → IsStocked s.standing.world
-made_stocked s m = subst (λ (q : Session). IsStocked q.standing.world) (sym m.2) (after_stocked opening_session opening_is_lawful.session opening_stocked m.0)
+made_stocked : (s : Session) → IsMade s → IsStocked s.environment.world
+made_stocked s m = subst (λ (q : Session). IsStocked q.environment.world) (sym m.2) (after_stocked opening_session opening_is_lawful.session opening_stocked m.0)
 
-pub made_objects_stocked : MadeObjectsAreStocked
-made_objects_stocked = record { made = λ s m. stocked_made s.standing.world (made_stocked s m); initials = λ s m. stocked_initials s.standing.world (made_stocked s m); plain = λ s m x g e. ap abstract_of ((made_stocked s m).each x (Generated g) e).there }
+pub made_stobjs_stocked : MadeStobjsAreStocked
+made_stobjs_stocked = record { made = λ s m. stocked_made s.environment.world (made_stocked s m); initials = λ s m. stocked_initials s.environment.world (made_stocked s m); plain = λ s m x g e. ap abstract_of ((made_stocked s m).each x (Generated g) e).there }
 
 -- ---- forms
 
 pub accepted_forms_suited : AcceptedFormsAreSuited
 accepted_forms_suited = record {
   suited = λ s m k form symbols longer h f p e fault.
-      let w = s.standing.world in
+      let w = s.environment.world in
       let known : IsKnownSession s = made_known s m in
       let rows = (made_sessions_lawful.lawful s m).world.functions in
       accepted_suited w (made_stocked s m) (abstracts_made w (made_stocked s m)) (length p.symbols) (live_scope s.stobjs) f (outs w (live_scope s.stobjs) f) fault
-      (forms_are_known.form (setting s.standing k) (length s.symbols) rows (world_supplies (setting s.standing k) (length s.symbols) known.enough known.definitions) form (at_start symbols) p f longer h e)
-      (forms_are_well_called.form (setting s.standing k) rows form (at_start symbols) p f e).several;
+      (forms_are_known.form (setting s.environment k) (length s.symbols) rows (world_supplies (setting s.environment k) (length s.symbols) known.enough known.definitions) form (at_start symbols) p f longer h e)
+      (forms_are_well_called.form (setting s.environment k) rows form (at_start symbols) p f e).several;
 }
 
 -- ---- worlds
 
-functions_suited : (s : Session) → IsMade s → (x : ℕ) (f : Function) → definition s.standing.world x ≡ Some (Defined f) → f.executable ≡ true
-    → IsSuited s.standing.world (length s.symbols) f.guard × IsSuited s.standing.world (length s.symbols) f.body
+functions_suited : (s : Session) → IsMade s → (x : ℕ) (f : Function) → definition s.environment.world x ≡ Some (Defined f) → f.executable ≡ true
+    → IsSuited s.environment.world (length s.symbols) f.guard × IsSuited s.environment.world (length s.symbols) f.body
 functions_suited s m x f e runs =
-    let w = s.standing.world in
+    let w = s.environment.world in
     function_suited w (made_stocked s m) (abstracts_made w (made_stocked s m)) (length s.symbols) f ((made_sessions_lawful.lawful s m).world.lawful.each x (Defined f) e runs) ((made_known s m).definitions.each x (Defined f) e) ((made_stocked s m).each x (Defined f) e)
 
 pub made_worlds_followed : MadeWorldsAreFollowed
@@ -117,15 +117,15 @@ made_worlds_followed = record {
   functions = functions_suited;
   followed = λ s m none. record {
     functions = functions_suited s m;
-    made = stocked_made s.standing.world (made_stocked s m);
-    layouts = (definitions_world s.standing.world (length s.symbols) (made_known s m).definitions).layouts;
-    initials = stocked_initials s.standing.world (made_stocked s m);
+    made = stocked_made s.environment.world (made_stocked s m);
+    layouts = (definitions_world s.environment.world (length s.symbols) (made_known s m).definitions).layouts;
+    initials = stocked_initials s.environment.world (made_stocked s m);
     concrete = none;
   };
-  creators = λ s m. abstracts_made s.standing.world (made_stocked s m);
-  abstracts = λ s m. functions_of_abstract s.standing.world (made_stocked s m);
+  creators = λ s m. abstracts_made s.environment.world (made_stocked s m);
+  abstracts = λ s m. functions_of_abstract s.environment.world (made_stocked s m);
   exports = λ s m x f e is.
-      let w = s.standing.world in
+      let w = s.environment.world in
       checked_suited w (made_stocked s m) (abstracts_made w (made_stocked s m)) (length s.symbols) f.formals f.signature.ins f.guard one_ordinary (((made_sessions_lawful.lawful s m).world.lawful.each x (OfAbstract f) e).0 is).guard
       ((made_known s m).definitions.each x (OfAbstract f) e) ((made_stocked s m).each x (OfAbstract f) e).several;
 }

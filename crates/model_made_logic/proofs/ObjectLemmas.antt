@@ -1,4 +1,4 @@
--- Definitions of objects as they are read: their fields have known symbols, and the names that they make leave a table.
+-- Definitions of stobjs as they are read: their fields have known symbols, and the names that they make leave a table.
 use Rattle.std.proofs.Common.{◌≡◌, ℕ, ◌<◌, ◌≤◌, List, [], ◌∷◌, ◌++◌, length, map, drop, Bool, true, false, Option, Some, None, refl, arith}
 use Rattle.std.specs.Prelude.{codes, option_and_then, unwrap_or, if◌then◌else◌}
 use Rattle.std.specs.List.{flat_map}
@@ -12,12 +12,12 @@ use Rattle.model_lists.specs.Types.{ValueType}
 use Rattle.model_terms.specs.Cores.{Core, Cores, Var, Const, If, Let, Mv, MvLet, StobjLet, WithLocal, MustBeEqual, Call, none, more}
 use Rattle.model_terms.specs.Worlds.{World, Shape, Scalar, Array, Hash, Child, Children, Descriptor, AbstractFunction, AbstractDescriptor, GeneratedFunction, Definition, Primitive, Defined, Macro, Constant, Concrete, Generated, Abstract, OfAbstract, Named, Signed, definition}
 use Rattle.model_expansion.specs.Words.{array_word, hash_table_word}
-use Rattle.model_expansion.specs.Forms.{elements, each, is, name_of, is_keyword_object}
+use Rattle.model_expansion.specs.Forms.{elements, each, is, symbol_name, is_keyword_object, symbol_or_nil}
 use Rattle.model_expansion.specs.TypeTerms.{accepted_type, true_core}
 use Rattle.model_expansion_forms.specs.Nodes.{AllNodes, HasConstant, IsBelow}
 use Rattle.model_stobjs.specs.Keys.{Keyed, key_value, keys_in}
-use Rattle.model_stobjs.specs.Objects as objects
-use Rattle.model_stobjs.specs.Objects.{WrittenField, WrittenObject, flag_or_false, before_first, from_first, renaming_of, is_executable_flag, field_keys, object_keys, written_field_of, written_field_in, written_field, old_object, written_object, symbol_or_nil, up_to, test_of_word, length_in, initial_value, unless_resizable, nested_object, array_shape, hash_shape, listed_shape, other_shape, scalar_or_other, shape_of, field_texts, Making, MadeNames, with_number, symbol_beside, new_name, name_made, names_made, ShapedField, shaped_fields, field_makings, object_makings, made_count, fields_with}
+use Rattle.model_stobjs.specs.Descriptors as objects
+use Rattle.model_stobjs.specs.Descriptors.{WrittenField, WrittenStobj, flag_or_false, before_first, from_first, renaming_of, is_executable_flag, field_keys, stobj_keys, written_field_of, written_field_in, written_field, old_stobj, written_stobj, up_to, test_of_word, length_in, initial_value, unless_resizable, nested_stobj, array_shape, hash_shape, listed_shape, other_shape, scalar_or_other, shape_of, field_texts, Making, MadeNames, with_number, symbol_beside, new_name, name_made, names_made, ShapedField, shaped_fields, field_makings, stobj_makings, made_count, fields_with}
 use Rattle.model_stobjs.specs.Entries.{stobj_entries, generated_functions}
 use Rattle.model_stobjs.specs.Guards.{Renaming, renamed_core, renamed_cores, with_functions, all_with_functions, without_names}
 use Rattle.model_stobjs.specs.Abstracts as abstracts
@@ -100,25 +100,25 @@ module _ (m : ℕ) (two : 2 ≤ m) where
   field_written symbols (Text bytes) h = tt
   field_written symbols (Pair a d) h = any_then (EachOne Is) FieldWritten (written_field_in symbols) (elements (Pair a d)) (elements_known m two (Pair a d) h) (field_in symbols)
 
-  abbrev pub ObjectWritten : WrittenObject → Type 0
+  abbrev pub ObjectWritten : WrittenStobj → Type 0
   ObjectWritten o = Is o.name × EachOne FieldWritten o.fields
 
   object_with : (w : World) (name : Object ℕ) (fields : List WrittenField) (ks : List Keyed) → Is name → EachOne FieldWritten fields → IfAny ObjectWritten (objects.written_with w name fields ks)
   object_with w name fields ks h k =
       any_if ObjectWritten (is_executable_flag (key_value (codes "NON-EXECUTABLE") ks)) _ None
       (any_then Trivial ObjectWritten _ (renaming_of (key_value (codes "RENAMING") ks)) (trivial_any _) (λ renaming t.
-      any_map Trivial ObjectWritten (λ old. record { name = name; fields = fields; renaming = renaming; congruent_to = old }) (old_object w (key_value (codes "CONGRUENT-TO") ks)) (trivial_any _) (λ old u. (h, k)))) tt
+      any_map Trivial ObjectWritten (λ old. record { name = name; fields = fields; renaming = renaming; congruent_to = old }) (old_stobj w (key_value (codes "CONGRUENT-TO") ks)) (trivial_any _) (λ old u. (h, k)))) tt
 
-  object_in : (w : World) (symbols : List QualifiedName) (os : List (Object ℕ)) → EachOne Is os → IfAny ObjectWritten (objects.written_in w symbols os)
-  object_in w symbols [] h = tt
-  object_in w symbols (name ∷ os) h =
+  stobj_in : (w : World) (symbols : List QualifiedName) (os : List (Object ℕ)) → EachOne Is os → IfAny ObjectWritten (objects.written_in w symbols os)
+  stobj_in w symbols [] h = tt
+  stobj_in w symbols (name ∷ os) h =
       any_then (EachOne FieldWritten) ObjectWritten _ (each (written_field symbols) (before_first (is_keyword_object symbols) os))
       (any_each Is FieldWritten (written_field symbols) (field_written symbols) (before_first (is_keyword_object symbols) os) (each_before Is (is_keyword_object symbols) os h.1)) (λ fields k.
-      any_then Trivial ObjectWritten (objects.written_with w name fields) (keys_in symbols object_keys (from_first (is_keyword_object symbols) os)) (trivial_any _) (λ ks t. object_with w name fields ks h.0 k))
+      any_then Trivial ObjectWritten (objects.written_with w name fields) (keys_in symbols stobj_keys (from_first (is_keyword_object symbols) os)) (trivial_any _) (λ ks t. object_with w name fields ks h.0 k))
 
-  pub object_written : (w : World) (symbols : List QualifiedName) (d : Object ℕ) → Is d → IfAny ObjectWritten (written_object w symbols d)
-  unfolding written_object
-  object_written w symbols d h = any_then (EachOne Is) ObjectWritten (objects.written_in w symbols) (elements d) (elements_known m two d h) (object_in w symbols)
+  pub object_written : (w : World) (symbols : List QualifiedName) (d : Object ℕ) → Is d → IfAny ObjectWritten (written_stobj w symbols d)
+  unfolding written_stobj
+  object_written w symbols d h = any_then (EachOne Is) ObjectWritten (objects.written_in w symbols) (elements d) (elements_known m two d h) (stobj_in w symbols)
 
   -- ---- their shapes
 
@@ -139,7 +139,7 @@ module _ (m : ℕ) (two : 2 ≤ m) where
     array_known : (t : Object ℕ) → Is t → (a : Option (ValueType ℕ)) (n : Option ℕ) → IfAny Shaped (array_shape w f t a n)
     array_known t k (Some accepted) n = any_map Trivial Shaped (λ n. Array t (initial_value w f) n f.resizable) _ (trivial_any _) (λ n u. (k, initial_known))
     array_known t k None n =
-        not_resizable _ (any_then Trivial Shaped _ (nested_object w f t) (trivial_any _) (λ object u. any_map Trivial Shaped (λ n. Children object n) _ (trivial_any _) (λ n v. tt)))
+        not_resizable _ (any_then Trivial Shaped _ (nested_stobj w f t) (trivial_any _) (λ stobj u. any_map Trivial Shaped (λ n. Children stobj n) _ (trivial_any _) (λ n v. tt)))
 
     hash_known : (t : Object ℕ) → IfAny Shaped (hash_shape w f t)
     hash_known t = not_resizable _ (any_map Trivial Shaped (λ test. Hash test) (test_of_word t) (trivial_any _) (λ test u. tt))
@@ -155,7 +155,7 @@ module _ (m : ℕ) (two : 2 ≤ m) where
 
     other_known : (t : Object ℕ) → Is t → IfAny Shaped (other_shape w f t)
     other_known (Integer n) k = tt
-    other_known (Symbol s) k = not_resizable _ (any_map Trivial Shaped Child (nested_object w f (Symbol s)) (trivial_any _) (λ x u. tt))
+    other_known (Symbol s) k = not_resizable _ (any_map Trivial Shaped Child (nested_stobj w f (Symbol s)) (trivial_any _) (λ x u. tt))
     other_known (Text bytes) k = tt
     other_known (Pair a d) k = any_then (EachOne Is) Shaped (listed_shape w f) (elements (Pair a d)) (elements_known m two (Pair a d) k) listed_known
 
@@ -188,12 +188,12 @@ module _ (m : ℕ) (two : 2 ≤ m) where
 
   fields_from : (symbols : List QualifiedName) (fs : List ShapedField) → EachOne FieldShaped fs → EachOne (IsFrom m) (field_makings symbols fs)
   fields_from symbols [] h = tt
-  fields_from symbols (f ∷ fs) h = each_both (IsFrom m) _ (field_makings symbols fs) (texts_from f.0 h.0.0 (field_texts (name_of symbols f.0) f.1)) (fields_from symbols fs h.1)
+  fields_from symbols (f ∷ fs) h = each_both (IsFrom m) _ (field_makings symbols fs) (texts_from f.0 h.0.0 (field_texts (symbol_name symbols f.0) f.1)) (fields_from symbols fs h.1)
 
-  pub object_from : (symbols : List QualifiedName) (name : Object ℕ) (fs : List ShapedField) → Is name → EachOne FieldShaped fs → EachOne (IsFrom m) (object_makings symbols (symbol_or_nil name) fs)
+  pub object_from : (symbols : List QualifiedName) (name : Object ℕ) (fs : List ShapedField) → Is name → EachOne FieldShaped fs → EachOne (IsFrom m) (stobj_makings symbols (symbol_or_nil name) fs)
   object_from symbols name fs k h = (number_known m two name k, (number_known m two name k, fields_from symbols fs h))
 
-  -- ---- abstract objects
+  -- ---- abstract stobjs
 
   abbrev FunctionWritten : WrittenFunction → Type 0
   FunctionWritten f = IfAny Is f.name
@@ -244,7 +244,7 @@ module _ (m : ℕ) (two : 2 ≤ m) where
   name_below : (f : WrittenFunction) → FunctionWritten f → name_number f < m
   name_below f h = go f.name h
     where
-      go : (v : Option (Object ℕ)) → IfAny Is v → option_map_or abstracts.number v nil < m
+      go : (v : Option (Object ℕ)) → IfAny Is v → option_map_or symbol_or_nil v nil < m
       go None k = omega (arith, two)
       go (Some o) k = number_known m two o k
 
@@ -264,7 +264,7 @@ module _ (m : ℕ) (two : 2 ≤ m) where
   pub abstract_from : (symbols : List QualifiedName) (a : WrittenAbstract) → AbstractWritten a → EachOne (IsFrom m) (makings (slots symbols a))
   abstract_from symbols a h = makings_from (slots symbols a) (slots_from symbols a h)
 
--- ---- what an object brings
+-- ---- what a stobj brings
 
 generated_known : (n : ℕ) (gs : List GeneratedFunction) → EachDefinition (KnowsDefinition n) (map Generated gs)
 generated_known n [] = tt
@@ -286,8 +286,8 @@ module _ (n : ℕ) where
     renamed_known (MvLet names bound body) r h = (tt, renamed_known bound r h.1, renamed_known body (without_names names r) h.2)
     renamed_known (StobjLet names bound vars producer consumer) r h =
         (tt, all_renamed bound r h.1, renamed_known producer (without_names names r) h.2, renamed_known consumer (without_names (names ++ vars) r) h.3)
-    renamed_known (WithLocal object names producer body) r h =
-        (tt, renamed_known producer (without_names (object ∷ []) r) h.1, renamed_known body (without_names (object ∷ names) r) h.2)
+    renamed_known (WithLocal stobj names producer body) r h =
+        (tt, renamed_known producer (without_names (stobj ∷ []) r) h.1, renamed_known body (without_names (stobj ∷ names) r) h.2)
     renamed_known (MustBeEqual logic exec) r h = (tt, renamed_known logic r h.1, renamed_known exec r h.2)
     renamed_known (Call f actuals) r h = (tt, all_renamed actuals r h.1)
 
@@ -306,7 +306,7 @@ module _ (n : ℕ) where
     elsewhere_known (Mv parts) r h = (tt, all_other parts r h.1)
     elsewhere_known (MvLet names bound body) r h = (tt, elsewhere_known bound r h.1, elsewhere_known body r h.2)
     elsewhere_known (StobjLet names bound vars producer consumer) r h = (tt, all_other bound r h.1, elsewhere_known producer r h.2, elsewhere_known consumer r h.3)
-    elsewhere_known (WithLocal object names producer body) r h = (tt, elsewhere_known producer r h.1, elsewhere_known body r h.2)
+    elsewhere_known (WithLocal stobj names producer body) r h = (tt, elsewhere_known producer r h.1, elsewhere_known body r h.2)
     elsewhere_known (MustBeEqual logic exec) r h = (tt, elsewhere_known logic r h.1, elsewhere_known exec r h.2)
     elsewhere_known (Call f actuals) r h = (tt, all_other actuals r h.1)
 

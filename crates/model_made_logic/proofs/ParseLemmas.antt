@@ -10,14 +10,14 @@ use Rattle.model_symbols.specs.Symbols.{QualifiedName}
 use Rattle.model_symbols.specs.Opening.{truth, nil, quote}
 use Rattle.model_terms.specs.Cores.{Core, Var}
 use Rattle.model_expansion.specs.Words.{declare_word, xargs_word, type_word, ignore_word, ignorable_word, optimize_word, defun_word, defund_word, defun_nx_word, mutual_recursion_word, optional_word, key_word}
-use Rattle.model_expansion.specs.Forms.{elements, each, each_of, is, symbol, text, is_key, is_keyword_object}
+use Rattle.model_expansion.specs.Forms.{elements, each, each_of, is, symbol, text, is_key, is_keyword_object, symbol_or_nil}
 use Rattle.model_expansion.specs.TypeTerms.{declared_test}
-use Rattle.model_expansion.specs.Layers.{GuardItem, Holds, Meets}
+use Rattle.model_expansion.specs.Layers.{GuardItem, FormHolds, Meets}
 use Rattle.model_expansion_forms.specs.Nodes.{IsBelow}
 use Rattle.model_expansion_forms.specs.Rows.{AreKnownItems, AreKnownDefaults}
 use Rattle.model_expansion_forms.proofs.PartLemmas.{AllHave, AllHaveIfAny, elements_have}
 use Rattle.model_expansion_forms.proofs.LawLemmas.{tests_are_shaped}
-use Rattle.model_stobjs.specs.Objects.{before_first, from_first}
+use Rattle.model_stobjs.specs.Descriptors.{before_first, from_first}
 use Rattle.model_stobjs.specs.Keys.{Keyed, key_value, with_key, keys_in, is_given, known_key}
 use Rattle.model_events.specs.Constants.{ends_well, name_and_form, text_and_form_of, text_and_form}
 use Rattle.model_events.specs.Declarations.{declared_items, with_items, items_and_body, formals_of, Declared, nothing_declared, both_declared, all_declared, stobjs_of, keyed_declared, xargs_declared, declared_formal, type_items, items_of_all, type_declared, headed_declared, item_in, item_declared, declarations}
@@ -180,7 +180,7 @@ module _ (m : ℕ) (two : 2 ≤ m) where
     keyed_known : (k v : Object ℕ) → Known v → IfAny GuardsKnown (keyed_declared symbols k v)
     keyed_known k v h =
         any_if GuardsKnown (not (is_keyword_object symbols k)) None _ tt
-        (any_if GuardsKnown (is_key symbols (codes "GUARD") k) (Some (record { guards = Holds v ∷ []; stobjs = [] })) _ (h, tt)
+        (any_if GuardsKnown (is_key symbols (codes "GUARD") k) (Some (record { guards = FormHolds v ∷ []; stobjs = [] })) _ (h, tt)
         (any_if GuardsKnown (is_key symbols (codes "STOBJS") k) _ (Some nothing_declared) (stobjs_known (stobjs_of v)) tt))
 
     xargs_known : (os : List (Object ℕ)) → AreKnown os → IfAny GuardsKnown (xargs_declared symbols os)
@@ -300,7 +300,7 @@ module _ (m : ℕ) (two : 2 ≤ m) where
     where
       go : (v : Option Declared) → IfAny GuardsKnown v → EachOne DraftKnown (drafts_of symbols fs)
           → EachOne DraftKnown (option_map_or (λ d. d ∷ drafts_of symbols fs)
-          (option_map (λ declared. record { name = functions.number f.name; formals = formals_of symbols f.formals; declared = declared; body = f.body; executable = f.executable }) v) (drafts_of symbols fs))
+          (option_map (λ declared. record { name = symbol_or_nil f.name; formals = formals_of symbols f.formals; declared = declared; body = f.body; executable = f.executable }) v) (drafts_of symbols fs))
       go None k later = later
       go (Some declared) k later = ((k, h.0.1), later)
 

@@ -21,8 +21,8 @@ mutual
   renamed_several (MvLet names bound body) r h = (h.0, renamed_several bound r h.1, renamed_several body (without_names names r) h.2)
   renamed_several (StobjLet names bound vars producer consumer) r h =
       (tt, all_renamed bound r h.1, renamed_several producer (without_names names r) h.2, renamed_several consumer (without_names (names ++ vars) r) h.3)
-  renamed_several (WithLocal object names producer body) r h =
-      (h.0, renamed_several producer (without_names (object ∷ []) r) h.1, renamed_several body (without_names (object ∷ names) r) h.2)
+  renamed_several (WithLocal stobj names producer body) r h =
+      (h.0, renamed_several producer (without_names (stobj ∷ []) r) h.1, renamed_several body (without_names (stobj ∷ names) r) h.2)
   renamed_several (MustBeEqual logic exec) r h = (tt, renamed_several logic r h.1, renamed_several exec r h.2)
   renamed_several (Call f actuals) r h = (tt, all_renamed actuals r h.1)
 
@@ -46,7 +46,7 @@ mutual
   other_several (Mv parts) r h = (subst (λ (n : ℕ). 2 ≤ n) (sym (other_count parts r)) h.0, all_other parts r h.1)
   other_several (MvLet names bound body) r h = (h.0, other_several bound r h.1, other_several body r h.2)
   other_several (StobjLet names bound vars producer consumer) r h = (tt, all_other bound r h.1, other_several producer r h.2, other_several consumer r h.3)
-  other_several (WithLocal object names producer body) r h = (h.0, other_several producer r h.1, other_several body r h.2)
+  other_several (WithLocal stobj names producer body) r h = (h.0, other_several producer r h.1, other_several body r h.2)
   other_several (MustBeEqual logic exec) r h = (tt, other_several logic r h.1, other_several exec r h.2)
   other_several (Call f actuals) r h = (tt, all_other actuals r h.1)
 

@@ -1,4 +1,4 @@
--- Commands keep what concrete objects are made of.
+-- Commands keep what concrete stobjs are made of.
 use Rattle.std.proofs.Common.{ℕ, List, [], ◌∷◌, ◌++◌, map, Bool, true, false, Option, Some, None, inl, inr}
 use Rattle.std.specs.Prelude.{nat_eq, option_map, if◌then◌else◌}
 use Rattle.model_objects.specs.Object.{Object}
@@ -13,7 +13,7 @@ use Rattle.model_expansion.specs.Words.{in_package_word, defpkg_word, defconst_w
 use Rattle.model_expansion.specs.Expansion.{Setting, Progress, Expanded, Makes, Fails, expanded, at_start}
 use Rattle.model_expansion_forms.specs.Rows.{HasRowFunctions}
 use Rattle.model_stobjs.specs.Answers.{EventResult, Grants, Refuses, Halts}
-use Rattle.model_stobjs.specs.Objects.{descriptor_read}
+use Rattle.model_stobjs.specs.Descriptors.{descriptor_read}
 use Rattle.model_stobjs.specs.Entries.{stobj_entries}
 use Rattle.model_stobjs.specs.Abstracts.{abstract_read, abstract_entries}
 use Rattle.model_stobjs.specs.Obligations.{obligations, too_large}
@@ -21,7 +21,7 @@ use Rattle.model_events.specs.Functions.{Draft, drafts_of, Candidate, all_expand
 use Rattle.model_events.specs.Functions as functions
 use Rattle.model_events.specs.Macros.{macro_read}
 use Rattle.model_events.specs.Constants.{constant_read, package_read, current_read}
-use Rattle.model_events.specs.Events.{Limits, Obliged, Admitted, setting, defining, definitions_admitted, object_admitted, package_admitted, current_admitted, abstract_admitted, admitted}
+use Rattle.model_events.specs.Events.{Limits, Obliged, Admitted, setting, defining, definitions_admitted, stobj_admitted, package_admitted, current_admitted, abstract_admitted, admitted}
 use Rattle.model_books.specs.Opening.{Session, primitive_numbers, opening_constants, opening_world, opening_session, primitives_named}
 use Rattle.model_books.specs.Commands.{Answer, Answered, live_scope, event_outcome, evaluated_outcome, core_outcome, expanded_outcome, live_list, at_once, ways, command}
 use Rattle.model_books_laws.proofs.WayLemmas.{ShowHolds, AllWays, way_holds}
@@ -46,7 +46,7 @@ any_grants (Grants a p) = tt
 any_grants (Refuses r p) = tt
 any_grants (Halts stop inside p) = tt
 
--- definitions that are of no concrete object
+-- definitions that are of no concrete stobj
 abbrev AreOther : World → Type 0
 AreOther new = (w : World) → EachDefinition (StockedDefinition w) new
 
@@ -88,12 +88,12 @@ stocked_with w new h k = record {
   each = λ x d e. elim (definition_is w new x d e) [ inl old ↦ stocked_more w new d (h.each x d old) | inr fresh ↦ each_found (StockedDefinition (w ++ new)) new k x d fresh.1 ];
 }
 
-module _ (k : Limits) (s : Session) (lawful : IsLawfulWorld s.standing.world) (stocked : IsStocked s.standing.world) where
+module _ (k : Limits) (s : Session) (lawful : IsLawfulWorld s.environment.world) (stocked : IsStocked s.environment.world) where
   abbrev world : World
-  world = s.standing.world
+  world = s.environment.world
 
   abbrev StaysStocked : Admitted → Type 0
-  StaysStocked a = IsStocked a.standing.world
+  StaysStocked a = IsStocked a.environment.world
 
   abbrev Granted : EventResult Admitted → Type 0
   Granted r = IfGrants StaysStocked r
@@ -102,33 +102,33 @@ module _ (k : Limits) (s : Session) (lawful : IsLawfulWorld s.standing.world) (s
   granted_if true q r h g = h
   granted_if false q r h g = g
 
-  other_granted : (head : ℕ) (new : World) (p : Progress) → AreOther new → Granted (definitions_admitted s.standing head new p)
+  other_granted : (head : ℕ) (new : World) (p : Progress) → AreOther new → Granted (definitions_admitted s.environment head new p)
   other_granted head new p h = stocked_with world new stocked (h (world ++ new))
 
-  abstract_granted : (d : AbstractDescriptor) (p : Progress) → IsAccepted world d → Granted (abstract_admitted s.standing d p)
+  abstract_granted : (d : AbstractDescriptor) (p : Progress) → IsAccepted world d → Granted (abstract_admitted s.environment d p)
   abstract_granted d p h =
       let os = obligations world p.symbols d in
-      grants_unless StaysStocked (too_large os) (Grants (record { standing = defining s.standing (abstract_entries world d); created = Some d.name; said = Obliged d.name os })) p
+      grants_unless StaysStocked (too_large os) (Grants (record { environment = defining s.environment (abstract_entries world d); created = Some d.name; said = Obliged d.name os })) p
       (λ light. stocked_with world (abstract_entries world d) stocked (abstract_stocked world stocked d h))
 
-  event_granted : (head : ℕ) (d : Object ℕ) (p : Progress) → Granted (admitted s.standing k head d p)
+  event_granted : (head : ℕ) (d : Object ℕ) (p : Progress) → Granted (admitted s.environment k head d p)
   unfolding admitted
   event_granted head d p =
-      let x = setting s.standing k in
-      granted_if (nat_eq head in_package_word) _ _ (grants_then Anything StaysStocked (current_read s.standing.packages d p) (current_admitted s.standing) (any_grants _) (λ n q h. stocked))
-      (granted_if (nat_eq head defpkg_word) _ _ (grants_then Anything StaysStocked (package_read x d p) (package_admitted s.standing) (any_grants _) (λ n q h. stocked))
-      (granted_if (nat_eq head defconst_word) _ _ (grants_then (EachDefinition IsPlain) StaysStocked (constant_read x d p) (definitions_admitted s.standing head) (constant_plain x d p) (λ new q h. other_granted head new q (plain_other new h)))
-      (granted_if (nat_eq head defmacro_word) _ _ (grants_then (EachDefinition IsPlain) StaysStocked (macro_read x d p) (definitions_admitted s.standing head) (macro_plain x d p) (λ new q h. other_granted head new q (plain_other new h)))
-      (granted_if (nat_eq head defstobj_word) _ _ (grants_then (HasOwnInitials world) StaysStocked (descriptor_read world s.standing.packages d p) (object_admitted s.standing)
-      (descriptor_initials world s.standing.packages d p)
+      let x = setting s.environment k in
+      granted_if (nat_eq head in_package_word) _ _ (grants_then Anything StaysStocked (current_read s.environment.packages d p) (current_admitted s.environment) (any_grants _) (λ n q h. stocked))
+      (granted_if (nat_eq head defpkg_word) _ _ (grants_then Anything StaysStocked (package_read x d p) (package_admitted s.environment) (any_grants _) (λ n q h. stocked))
+      (granted_if (nat_eq head defconst_word) _ _ (grants_then (EachDefinition IsPlain) StaysStocked (constant_read x d p) (definitions_admitted s.environment head) (constant_plain x d p) (λ new q h. other_granted head new q (plain_other new h)))
+      (granted_if (nat_eq head defmacro_word) _ _ (grants_then (EachDefinition IsPlain) StaysStocked (macro_read x d p) (definitions_admitted s.environment head) (macro_plain x d p) (λ new q h. other_granted head new q (plain_other new h)))
+      (granted_if (nat_eq head defstobj_word) _ _ (grants_then (HasOwnInitials world) StaysStocked (descriptor_read world s.environment.packages d p) (stobj_admitted s.environment)
+      (descriptor_initials world s.environment.packages d p)
       (λ o q h. stocked_with world (stobj_entries world o) stocked (entries_stocked o world h.1 h.0)))
-      (granted_if (nat_eq head defabsstobj_word) _ _ (grants_then (IsAccepted world) StaysStocked (abstract_read world s.standing.packages d p) (abstract_admitted s.standing) (abstract_accepted world s.standing.packages d p) abstract_granted)
-      (grants_then AreOther StaysStocked (functions_read x head d p) (definitions_admitted s.standing head) (functions_other x lawful head d p) (other_granted head)))))))
+      (granted_if (nat_eq head defabsstobj_word) _ _ (grants_then (IsAccepted world) StaysStocked (abstract_read world s.environment.packages d p) (abstract_admitted s.environment) (abstract_accepted world s.environment.packages d p) abstract_granted)
+      (grants_then AreOther StaysStocked (functions_read x head d p) (definitions_admitted s.environment head) (functions_other x lawful head d p) (other_granted head)))))))
 
   -- ---- commands
 
   abbrev IsKept : Answered → Type 0
-  IsKept o = IsStocked o.session.standing.world
+  IsKept o = IsStocked o.session.environment.world
 
   event_kept : (r : EventResult Admitted) → Granted r → IsKept (event_outcome k s r)
   event_kept (Grants a p) h = h
@@ -142,7 +142,7 @@ module _ (k : Limits) (s : Session) (lawful : IsLawfulWorld s.standing.world) (s
 
   core_kept : (f : Core) (p : Progress) (fault : Option Fault) → IsKept (core_outcome k s f p fault)
   core_kept f p (Some fault) = stocked
-  core_kept f p None = outcome_kept p (checked world s.standing.packages k.steps k.depth f (live s.stobjs) (begun p.symbols s.stobjs p.calls))
+  core_kept f p None = outcome_kept p (checked world s.environment.packages k.steps k.depth f (live s.stobjs) (begun p.symbols s.stobjs p.calls))
 
   expanded_kept : (e : Expanded Core) → IsKept (expanded_outcome k s e)
   expanded_kept (Makes f p) = core_kept f p (expression_fault world (live_scope s.stobjs) f)
@@ -154,15 +154,15 @@ module _ (k : Limits) (s : Session) (lawful : IsLawfulWorld s.standing.world) (s
 
   all_kept : AllWays IsKept (ways k s) s.symbols
   all_kept = record {
-    event = λ head d. event_kept (admitted s.standing k head d (at_start s.symbols)) (event_granted head d (at_start s.symbols));
+    event = λ head d. event_kept (admitted s.environment k head d (at_start s.symbols)) (event_granted head d (at_start s.symbols));
     skipped = stocked;
     refused = λ r. stocked;
-    expression = λ form. expanded_kept (expanded (setting s.standing k) form (at_start s.symbols));
+    expression = λ form. expanded_kept (expanded (setting s.environment k) form (at_start s.symbols));
     show = λ x. shown_kept (live_list k s x) _;
     cells = stocked;
   }
 
-  pub command_stocked : (form : Object ℕ) → IsStocked (command k s form).session.standing.world
+  pub command_stocked : (form : Object ℕ) → IsStocked (command k s form).session.environment.world
   unfolding command
   command_stocked form = way_holds IsKept (ways k s) s.symbols all_kept form
 
@@ -177,6 +177,6 @@ opening_other : AreOther opening_world
 unfolding opening_world
 opening_other = primitives_other primitive_numbers table opening_constants (λ w. (tt, (tt, tt)))
 
-pub opening_stocked : IsStocked opening_session.standing.world
+pub opening_stocked : IsStocked opening_session.environment.world
 unfolding opening_session
 opening_stocked = record { each = each_found (StockedDefinition opening_world) opening_world (opening_other opening_world) }

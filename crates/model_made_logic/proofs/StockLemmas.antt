@@ -1,4 +1,4 @@
--- What definitions are made of: initial values of objects meet their types, their functions have their inputs in order, and in
+-- What definitions are made of: initial values of stobjs meet their types, their functions have their inputs in order, and in
 -- functions several values are two at least.
 use Rattle.std.proofs.Common.{◌≡◌, ℕ, zero, suc, ◌+◌, List, [], ◌∷◌, ◌++◌, map, drop, Bool, true, false, Option, Some, None, refl, sym, ap, ◌∙◌, subst, inl, inr, arith}
 use Rattle.std.specs.Prelude.{◌⊎◌, ◌||◌, nat_eq, slice_get, option_and_then, replicate, unwrap_or, if◌then◌else◌}
@@ -15,8 +15,8 @@ use Rattle.model_terms.specs.declared.role.Role.{Role}
 use Rattle.model_terms.specs.declared.role.Role.TheVariants as role
 use Rattle.model_terms.specs.Worlds.{World, AbstractDescriptor, FunctionOfAbstract, Definition, Out, Ordinary, Stobj, Shape, Scalar, Array, Hash, Child, Children, Field, Descriptor, GeneratedFunction, definition, Primitive, Defined, Macro, Constant, Concrete, Generated, Abstract, OfAbstract, Named, Signed}
 use Rattle.model_terms.specs.declared.role.AbstractRole.TheVariants as abstract_role
-use Rattle.model_terms.specs.Children.{descriptor_in, descriptor_of, held_by, held_in, is_kept_back, is_internal}
-use Rattle.model_eval.specs.Worlds.{most_nested, field_type, shape_layout, fields_layout, defined_layout, layout_within}
+use Rattle.model_terms.specs.Accessors.{descriptor_in, descriptor_of, held_by, held_in, is_kept_back, is_internal}
+use Rattle.model_eval.specs.StobjLayouts.{most_nested, field_type, shape_layout, fields_layout, defined_layout, layout_within}
 use Rattle.model_eval_laws.proofs.Lists.{same_number}
 use Rattle.model_accepted.specs.Threaded.{layout_of, IsConcrete}
 use Rattle.model_accepted.proofs.AcceptLemmas.{true_false, neither}
@@ -24,17 +24,18 @@ use Rattle.model_expansion.specs.Faults.{Refusal, BadInitial}
 use Rattle.model_expansion.specs.TypeTerms.{not_too_deep}
 use Rattle.model_expansion.specs.Expansion.{Progress}
 use Rattle.model_expansion_forms.specs.Nodes.{EachNode, HasSeveral}
-use Rattle.model_expansion.specs.Forms.{among}
+use Rattle.model_expansion.specs.Forms.{symbol_or_nil}
 use Rattle.model_stobjs.specs.Heads.{name_in_use}
 use Rattle.model_stobjs.specs.Answers.{Grants, first_given}
-use Rattle.model_stobjs.specs.Objects.{WrittenField, WrittenObject, written_object, shape_of, has_good_initial, bad_type, bad_initial, MadeNames, names_made, ShapedField, shaped_fields, made_count, fields_with, object_makings, symbol_or_nil, room_for, descriptor_made, named_descriptor, descriptor_with, names_then, written_then, descriptor_read, new_names, names_of_field, mismatch}
+use Rattle.model_stobjs.specs.Descriptors.{WrittenField, WrittenStobj, written_stobj, shape_of, has_good_initial, bad_type, bad_initial, MadeNames, names_made, ShapedField, shaped_fields, made_count, fields_with, stobj_makings, room_for, descriptor_made, named_descriptor, descriptor_with, names_then, written_then, descriptor_read, new_names, names_of_field, mismatch}
 use Rattle.model_stobjs.specs.Entries.{Task, function_of, recognizer_task, creator_task, field_tasks, named_tasks, field_functions, generated_functions, class_for, stobj_entries}
-use Rattle.model_follows.specs.Worlds.{SuitsLogic, before_object, ordinary_before, object_argument, IsMadeFor, HasCreator}
+use Rattle.model_follows.specs.FollowedWorlds.{SuitsLogic, before_stobj, ordinary_before, stobj_argument, IsMadeFor, HasCreator}
 use Rattle.model_logic.specs.Logic.{creator_of}
 use Rattle.model_made.proofs.WorldLemmas.{EachDefinition, named, definition_old, definition_new}
 use Rattle.model_made.proofs.EventLemmas.{IfGrants, grants_unless, grants_needing}
 use Rattle.model_made.proofs.DraftLemmas.{none_or, first_free}
 use Rattle.model_made_logic.proofs.ParseLemmas.{EachOne, each_both}
+use Rattle.model_terms.specs.Classes.{has}
 
 abbrev same : Object ℕ → Object ℕ
 same o = o
@@ -57,48 +58,48 @@ HaveInitials (f ∷ fs) = HasInitial f.shape × HaveInitials fs
 
 -- how a function of a field is called, where forms may call it
 abbrev pub TaskFits : ℕ → Shape → Role → List Out → Type 0
-TaskFits object s r ins =
-    is_kept_back r (held_by s) ≡ false → (child : ℕ → Layout ℕ) → (ins ≡ ordinary_before (before_object r (shape_layout same child s)) (object_argument r object)) × SuitsLogic r (shape_layout same child s)
+TaskFits stobj s r ins =
+    is_kept_back r (held_by s) ≡ false → (child : ℕ → Layout ℕ) → (ins ≡ ordinary_before (before_stobj r (shape_layout same child s)) (stobj_argument r stobj)) × SuitsLogic r (shape_layout same child s)
 
 pub record IsOfField (d : Descriptor) (g : GeneratedFunction) : Type 0 where
   pub number : ℕ
   pub field : Field
   pub there : slice_get d.fields number ≡ Some field
   pub of_field : g.field ≡ Some number
-  pub fits : TaskFits g.object field.shape g.role g.signature.ins
+  pub fits : TaskFits g.stobj field.shape g.role g.signature.ins
 
 -- the recognizer or the creator
 abbrev pub IsOwn : GeneratedFunction → Type 0
-IsOwn g = ((g.role ≡ role.Recognizer) × (g.signature.ins ≡ Stobj g.object ∷ [])) ⊎ (g.role ≡ role.Creator)
+IsOwn g = ((g.role ≡ role.Recognizer) × (g.signature.ins ≡ Stobj g.stobj ∷ [])) ⊎ (g.role ≡ role.Creator)
 
 pub record ComesWith (w : World) (g : GeneratedFunction) : Type 0 where
   pub descriptor : Descriptor
   pub class : ℕ
-  pub there : definition w g.object ≡ Some (Concrete descriptor class)
+  pub there : definition w g.stobj ≡ Some (Concrete descriptor class)
   pub kind : IsOwn g ⊎ IsOfField descriptor g
 
--- the creator of an object is there
+-- the creator of a stobj is there
 pub record CreatorThere (w : World) (d : Descriptor) : Type 0 where
   pub creator : GeneratedFunction
   pub there : definition w d.creator ≡ Some (Generated creator)
   pub makes : creator.role ≡ role.Creator
-  pub made_of : creator.object ≡ d.name
+  pub made_of : creator.stobj ≡ d.name
 
--- the creator of an abstract object is there
+-- the creator of an abstract stobj is there
 pub record AbstractThere (w : World) (d : AbstractDescriptor) : Type 0 where
   pub creator : FunctionOfAbstract
   pub there : definition w d.creator.name ≡ Some (OfAbstract creator)
   pub makes : creator.logic ≡ d.creator.logic
 
--- a function of an abstract object has its object, and a logic function that is of none; without the object it is the creator
+-- a function of an abstract stobj has its stobj, and a logic function that is of none; without the stobj it is the creator
 pub record OfAbstractThere (w : World) (f : FunctionOfAbstract) : Type 0 where
   pub descriptor : AbstractDescriptor
-  pub object : definition w f.object ≡ Some (Abstract descriptor)
+  pub stobj : definition w f.stobj ≡ Some (Abstract descriptor)
   pub logic : Definition
   pub found : definition w f.logic ≡ Some logic
   pub concrete : IsConcrete logic
-  pub recognizer : f.role ≡ abstract_role.Recognizer → (f.logic ≡ descriptor.recognizer.logic) × (f.signature.ins ≡ Stobj f.object ∷ [])
-  pub plain : (k : ℕ) → f.signature.ins ≡ replicate k Ordinary → f.signature.outs ≡ Stobj f.object ∷ []
+  pub recognizer : f.role ≡ abstract_role.Recognizer → (f.logic ≡ descriptor.recognizer.logic) × (f.signature.ins ≡ Stobj f.stobj ∷ [])
+  pub plain : (k : ℕ) → f.signature.ins ≡ replicate k Ordinary → f.signature.outs ≡ Stobj f.stobj ∷ []
   pub several : EachNode HasSeveral f.guard
 
 -- ---- worlds
@@ -125,11 +126,11 @@ stocked_more w new (Macro name formals body) h = tt
 stocked_more w new (Constant name value) h = tt
 stocked_more w new (Concrete d class) h =
     (h.0, record { creator = h.1.creator; there = definition_old w new d.creator (Generated h.1.creator) h.1.there; makes = h.1.makes; made_of = h.1.made_of })
-stocked_more w new (Generated g) h = record { descriptor = h.descriptor; class = h.class; there = definition_old w new g.object (Concrete h.descriptor h.class) h.there; kind = h.kind }
+stocked_more w new (Generated g) h = record { descriptor = h.descriptor; class = h.class; there = definition_old w new g.stobj (Concrete h.descriptor h.class) h.there; kind = h.kind }
 stocked_more w new (Abstract d) h = record { creator = h.creator; there = definition_old w new d.creator.name (OfAbstract h.creator) h.there; makes = h.makes }
 stocked_more w new (OfAbstract f) h = record {
   descriptor = h.descriptor;
-  object = definition_old w new f.object (Abstract h.descriptor) h.object;
+  stobj = definition_old w new f.stobj (Abstract h.descriptor) h.stobj;
   logic = h.logic;
   found = definition_old w new f.logic h.logic h.found;
   concrete = h.concrete;
@@ -190,14 +191,14 @@ module _ (w : World) (stocked : IsStocked w) where
     own_made : IsOwn g → IsMadeFor w g
     own_made (inl h) = record {
       ins =
-          h.1 ∙ sym (ap (λ (r : Role). ordinary_before (before_object r (field_layout (unwrap_or g.field 0) (layout_of w g.object))) (object_argument r g.object)) h.0);
-      suits = subst (λ (r : Role). SuitsLogic r (field_layout (unwrap_or g.field 0) (layout_of w g.object))) (sym h.0) tt;
+          h.1 ∙ sym (ap (λ (r : Role). ordinary_before (before_stobj r (field_layout (unwrap_or g.field 0) (layout_of w g.stobj))) (stobj_argument r g.stobj)) h.0);
+      suits = subst (λ (r : Role). SuitsLogic r (field_layout (unwrap_or g.field 0) (layout_of w g.stobj))) (sym h.0) tt;
     }
     own_made (inr h) = true_false (sym (ap (λ (r : Role). is_kept_back r (held_in w g)) h) ∙ internal)
 
     field_made : (c : ComesWith w g) → IsOfField c.descriptor g → IsMadeFor w g
     field_made c f = record {
-      ins = subst (λ (l : Layout ℕ). g.signature.ins ≡ ordinary_before (before_object g.role l) (object_argument g.role g.object)) (sym layout_is) fit.0;
+      ins = subst (λ (l : Layout ℕ). g.signature.ins ≡ ordinary_before (before_stobj g.role l) (stobj_argument g.role g.stobj)) (sym layout_is) fit.0;
       suits = subst (λ (l : Layout ℕ). SuitsLogic g.role l) (sym layout_is) fit.1;
     }
       where
@@ -206,17 +207,17 @@ module _ (w : World) (stocked : IsStocked w) where
 
         holds : held_in w g ≡ held_by f.field.shape
         holds =
-            ap (λ (k : Option ℕ). option_and_then (λ (e : Field). held_by e.shape) (option_and_then (λ k. option_and_then (λ (d : Descriptor). slice_get d.fields k) (descriptor_of w g.object)) k)) f.of_field
+            ap (λ (k : Option ℕ). option_and_then (λ (e : Field). held_by e.shape) (option_and_then (λ k. option_and_then (λ (d : Descriptor). slice_get d.fields k) (descriptor_of w g.stobj)) k)) f.of_field
             ∙ (ap (λ (d : Option Definition). option_and_then (λ (e : Field). held_by e.shape) (option_and_then (λ (d : Descriptor). slice_get d.fields f.number) (option_and_then descriptor_in d))) c.there
             ∙ ap (λ (e : Option Field). option_and_then (λ (e : Field). held_by e.shape) e) f.there)
 
-        fit : (g.signature.ins ≡ ordinary_before (before_object g.role (shape_layout same child f.field.shape)) (object_argument g.role g.object)) × SuitsLogic g.role (shape_layout same child f.field.shape)
+        fit : (g.signature.ins ≡ ordinary_before (before_stobj g.role (shape_layout same child f.field.shape)) (stobj_argument g.role g.stobj)) × SuitsLogic g.role (shape_layout same child f.field.shape)
         fit = f.fits (sym (ap (is_kept_back g.role) holds) ∙ internal) child
 
-        layout_is : field_layout (unwrap_or g.field 0) (layout_of w g.object) ≡ shape_layout same child f.field.shape
+        layout_is : field_layout (unwrap_or g.field 0) (layout_of w g.stobj) ≡ shape_layout same child f.field.shape
         layout_is =
-            ap (λ (k : Option ℕ). field_layout (unwrap_or k 0) (layout_of w g.object)) f.of_field
-            ∙ (ap (field_layout f.number) (concrete_layout g.object c.descriptor c.class c.there) ∙ layout_here child c.descriptor.fields f.number f.field f.there)
+            ap (λ (k : Option ℕ). field_layout (unwrap_or k 0) (layout_of w g.stobj)) f.of_field
+            ∙ (ap (field_layout f.number) (concrete_layout g.stobj c.descriptor c.class c.there) ∙ layout_here child c.descriptor.fields f.number f.field f.there)
 
     comes_made : ComesWith w g → IsMadeFor w g
     comes_made c = go c.kind
@@ -228,19 +229,19 @@ module _ (w : World) (stocked : IsStocked w) where
   pub stocked_made : (x : ℕ) (g : GeneratedFunction) → definition w x ≡ Some (Generated g) → is_internal w (Generated g) ≡ false → IsMadeFor w g
   stocked_made x g e internal = comes_made g internal (stocked.each x (Generated g) e)
 
--- ---- what an object brings
+-- ---- what a stobj brings
 
-tasks_fit : (object : ℕ) (s : Shape) → EachOne (λ (t : Task). TaskFits object s t.0 t.1.ins) (field_tasks object s)
-tasks_fit object (Scalar t o) = ((λ k c. (refl, tt)), ((λ k c. (refl, tt)), ((λ k c. (refl, tt)), tt)))
-tasks_fit object (Array t o n resizable) = ((λ k c. (refl, tt)), ((λ k c. (refl, tt)), ((λ k c. (refl, tt)), ((λ k c. (refl, tt)), ((λ k c. (refl, tt)), tt)))))
-tasks_fit object (Hash test) =
+tasks_fit : (stobj : ℕ) (s : Shape) → EachOne (λ (t : Task). TaskFits stobj s t.0 t.1.ins) (field_tasks stobj s)
+tasks_fit stobj (Scalar t o) = ((λ k c. (refl, tt)), ((λ k c. (refl, tt)), ((λ k c. (refl, tt)), tt)))
+tasks_fit stobj (Array t o n resizable) = ((λ k c. (refl, tt)), ((λ k c. (refl, tt)), ((λ k c. (refl, tt)), ((λ k c. (refl, tt)), ((λ k c. (refl, tt)), tt)))))
+tasks_fit stobj (Hash test) =
     ((λ k c. (refl, tt)), ((λ k c. (refl, tt)), ((λ k c. (refl, tt)), ((λ k c. (refl, tt)), ((λ k c. (refl, tt)), ((λ k c. (refl, tt)), ((λ k c. (refl, tt)), ((λ k c. (refl, tt)), tt))))))))
-tasks_fit object (Child x) = ((λ k c. (refl, tt)), ((λ k c. true_false k), ((λ k c. true_false k), tt)))
-tasks_fit object (Children x n) = ((λ k c. (refl, tt)), ((λ k c. (refl, tt)), ((λ k c. (refl, tt)), ((λ k c. true_false k), ((λ k c. true_false k), tt)))))
+tasks_fit stobj (Child x) = ((λ k c. (refl, tt)), ((λ k c. true_false k), ((λ k c. true_false k), tt)))
+tasks_fit stobj (Children x n) = ((λ k c. (refl, tt)), ((λ k c. (refl, tt)), ((λ k c. (refl, tt)), ((λ k c. true_false k), ((λ k c. true_false k), tt)))))
 
 module _ (d : Descriptor) where
   abbrev IsOf : GeneratedFunction → Type 0
-  IsOf g = (g.object ≡ d.name) × (IsOwn g ⊎ IsOfField d g)
+  IsOf g = (g.stobj ≡ d.name) × (IsOwn g ⊎ IsOfField d g)
 
   named_come : (k : ℕ) (f : Field) → slice_get d.fields k ≡ Some f → (names : List ℕ) (ts : List Task) → EachOne (λ (t : Task). TaskFits d.name f.shape t.0 t.1.ins) ts → EachOne IsOf (named_tasks d.name k names ts)
   named_come k f e [] ts h = tt
@@ -287,9 +288,9 @@ module _ (d : Descriptor) where
         let first = first_free w d.name (d.recognizer ∷ d.creator ∷ flat_map names_of_field d.fields) free in
         let second = first_free w d.recognizer (d.creator ∷ flat_map names_of_field d.fields) first.1 in
         let third = first_free w d.creator (flat_map names_of_field d.fields) second.1 in
-        let not_recognizer = neither (nat_eq d.name d.recognizer) (nat_eq d.name d.creator || among d.name (flat_map names_of_field d.fields)) first.0.once in
-        let not_creator = neither (nat_eq d.name d.creator) (among d.name (flat_map names_of_field d.fields)) not_recognizer.1 in
-        let apart = neither (nat_eq d.recognizer d.creator) (among d.recognizer (flat_map names_of_field d.fields)) second.0.once in
+        let not_recognizer = neither (nat_eq d.name d.recognizer) (nat_eq d.name d.creator || has (flat_map names_of_field d.fields) d.name) first.0.once in
+        let not_creator = neither (nat_eq d.name d.creator) (has (flat_map names_of_field d.fields) d.name) not_recognizer.1 in
+        let apart = neither (nat_eq d.recognizer d.creator) (has (flat_map names_of_field d.fields) d.recognizer) second.0.once in
         record {
           creator = own None d.creator (creator_task d.name);
           there =
@@ -353,7 +354,7 @@ module _ (w : World) where
   abbrev pub HasOwnInitials : Descriptor → Type 0
   HasOwnInitials d = HaveInitials d.fields × (name_in_use w (new_names d) ≡ None)
 
-  made_initials : (o : WrittenObject) (m : MadeNames) (p : Progress) → EachOne (λ (f : ShapedField). HasInitial f.1) (shaped_fields w o.fields) → IfGrants HasOwnInitials (descriptor_made w o (shaped_fields w o.fields) m p)
+  made_initials : (o : WrittenStobj) (m : MadeNames) (p : Progress) → EachOne (λ (f : ShapedField). HasInitial f.1) (shaped_fields w o.fields) → IfGrants HasOwnInitials (descriptor_made w o (shaped_fields w o.fields) m p)
   made_initials o m p h =
       let d = descriptor_with o (shaped_fields w o.fields) m.numbers in
       grants_unless HasOwnInitials (room_for m) (named_descriptor w d) (record p { symbols = m.symbols }) (λ room.
@@ -362,11 +363,11 @@ module _ (w : World) where
   pub descriptor_initials : (packages : List Package) (d : Object ℕ) (p : Progress) → IfGrants HasOwnInitials (descriptor_read w packages d p)
   unfolding descriptor_read
   descriptor_initials packages d p =
-      grants_needing HasOwnInitials (written_object w p.symbols d) _ (written_then w packages) p (λ o is.
+      grants_needing HasOwnInitials (written_stobj w p.symbols d) _ (written_then w packages) p (λ o is.
       grants_unless HasOwnInitials _ (names_then w packages o (shaped_fields w o.fields)) p (λ good.
       let first = none_or _ (option_or (first_given (bad_type w) o.fields) (first_given (bad_initial w) o.fields)) good in
       let types = none_or (first_given (bad_type w) o.fields) (first_given (bad_initial w) o.fields) first.1 in
-      made_initials o (names_made packages o.renaming (object_makings p.symbols (symbol_or_nil o.name) (shaped_fields w o.fields)) p.symbols) p (fields_good o.fields types.1)))
+      made_initials o (names_made packages o.renaming (stobj_makings p.symbols (symbol_or_nil o.name) (shaped_fields w o.fields)) p.symbols) p (fields_good o.fields types.1)))
 
 -- ---- creators
 

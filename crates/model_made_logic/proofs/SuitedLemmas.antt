@@ -5,9 +5,9 @@ use Rattle.model_terms.specs.declared.rule.Mode.{Mode}
 use Rattle.model_terms.specs.declared.rule.Mode.TheVariants.{Executable, Logic}
 use Rattle.model_terms.specs.Cores.{Core, Cores, Var, Const, If, Let, Mv, MvLet, StobjLet, WithLocal, MustBeEqual, Call, none, more}
 use Rattle.model_terms.specs.Worlds.{World, Definition, Out, Scope, Function, Descriptor, AbstractDescriptor, Primitive, Defined, Macro, Constant, Concrete, Generated, Abstract, OfAbstract, Named, Signed, definition}
-use Rattle.model_terms.specs.Classes.{class_in, is_object_name}
+use Rattle.model_terms.specs.Classes.{class_in, is_stobj_name}
 use Rattle.model_terms.specs.Nested.{with_local_holds}
-use Rattle.model_terms.specs.Sites.{one_ordinary, here, first_kind, other_kinds, formal_object, actual_expected}
+use Rattle.model_terms.specs.Sites.{one_ordinary, here, first_kind, other_kinds, formal_stobj, actual_expected}
 use Rattle.model_terms.specs.Faults.{first_fault}
 use Rattle.model_terms_laws.specs.Laws.{AllHold}
 use Rattle.model_accepted.specs.Threaded.{formal_entries}
@@ -15,16 +15,16 @@ use Rattle.model_lawful.specs.Lawful.{WasChecked, WasAdmitted}
 use Rattle.model_accepted.specs.Accepted.{Accepted, PartsAccepted, ActualsAccepted}
 use Rattle.model_accepted.proofs.AcceptLemmas.{accepted_first, of_if, of_let, of_mv, of_mv_let, of_stobj_let, of_with_local, of_must_be_equal, of_call, s14, not_false, both_true, true_false}
 use Rattle.model_expansion_forms.specs.Nodes.{EachNode, AllNodes, HasSeveral, HasConstant, IsBelow}
-use Rattle.model_follows.specs.Worlds.{HasCreator, HasAbstractCreator, IsSuited, AreSuited}
+use Rattle.model_follows.specs.FollowedWorlds.{HasCreator, HasAbstractCreator, IsSuited, AreSuited}
 use Rattle.model_made_logic.specs.Known.{KnowsForm}
 use Rattle.model_made_logic.proofs.StockLemmas.{IsStocked, stocked_creators}
 
--- what makes an object of this name
+-- what makes a stobj of this name
 abbrev CanBeMade : World → ℕ → Type 0
 CanBeMade w x = HasCreator w x ⊎ HasAbstractCreator w x
 
-module _ (c w : World) (n : ℕ) (mode : Mode) (makes : (object : ℕ) (names : List ℕ) (producer body : Core) (scope : Scope) (formal : Option ℕ) (expected : List Out)
-    → AllHold c mode (here (WithLocal object names producer body) scope formal expected) → CanBeMade w object) where
+module _ (c w : World) (n : ℕ) (mode : Mode) (makes : (stobj : ℕ) (names : List ℕ) (producer body : Core) (scope : Scope) (formal : Option ℕ) (expected : List Out)
+    → AllHold c mode (here (WithLocal stobj names producer body) scope formal expected) → CanBeMade w stobj) where
   mutual
     unfolding IsSuited AreSuited
 
@@ -41,9 +41,9 @@ module _ (c w : World) (n : ℕ) (mode : Mode) (makes : (object : ℕ) (names : 
         let parts = of_mv_let c mode scope formal expected names bound body all in (h.0, suited_of bound _ _ _ parts.0 k.1 h.1, suited_of body _ _ _ parts.1 k.2 h.2)
     suited_of (StobjLet names bound vars producer consumer) scope formal expected all k h =
         let parts = of_stobj_let c mode scope formal expected names bound vars producer consumer all in (suited_of producer _ _ _ parts.0 k.2 h.2, suited_of consumer _ _ _ parts.1 k.3 h.3)
-    suited_of (WithLocal object names producer body) scope formal expected all k h =
-        let parts = of_with_local c mode scope formal expected object names producer body all in
-        (h.0, makes object names producer body scope formal expected all.0, suited_of producer _ _ _ parts.0 k.1 h.1, suited_of body _ _ _ parts.1 k.2 h.2)
+    suited_of (WithLocal stobj names producer body) scope formal expected all k h =
+        let parts = of_with_local c mode scope formal expected stobj names producer body all in
+        (h.0, makes stobj names producer body scope formal expected all.0, suited_of producer _ _ _ parts.0 k.1 h.1, suited_of body _ _ _ parts.1 k.2 h.2)
     suited_of (MustBeEqual logic exec) scope formal expected all k h = suited_of logic _ _ _ (of_must_be_equal c mode scope formal expected logic exec all).0 k.1 h.1
     suited_of (Call f actuals) scope formal expected all k h = actuals_suited actuals _ _ (of_call c mode scope formal expected f actuals all) k.1 h.1
 
@@ -54,27 +54,27 @@ module _ (c w : World) (n : ℕ) (mode : Mode) (makes : (object : ℕ) (names : 
     actuals_suited : (fs : Cores) (scope : Scope) (ins : List Out) → ActualsAccepted c mode scope ins fs → AllNodes (HasConstant (IsBelow n)) fs → AllNodes HasSeveral fs → AreSuited w n fs
     actuals_suited none scope ins all k h = tt
     actuals_suited (more f fs) scope ins all k h =
-        (suited_of f scope (formal_object (first_kind ins)) (actual_expected (first_kind ins) f) all.0 k.0 h.0, actuals_suited fs scope (other_kinds ins) all.1 k.1 h.1)
+        (suited_of f scope (formal_stobj (first_kind ins)) (actual_expected (first_kind ins) f) all.0 k.0 h.0, actuals_suited fs scope (other_kinds ins) all.1 k.1 h.1)
 
--- a local object is one of the world of the check
-local_object : (c : World) (scope : Scope) (expected : List Out) (object : ℕ) (names : List ℕ) (producer : Core) → with_local_holds c scope expected object names producer ≡ true → is_object_name c object ≡ true
+-- a local stobj is one of the world of the check
+local_object : (c : World) (scope : Scope) (expected : List Out) (stobj : ℕ) (names : List ℕ) (producer : Core) → with_local_holds c scope expected stobj names producer ≡ true → is_stobj_name c stobj ≡ true
 unfolding with_local_holds
-local_object c scope expected object names producer e = (both_true (is_object_name c object) _ e).0
+local_object c scope expected stobj names producer e = (both_true (is_stobj_name c stobj) _ e).0
 
 executable_not_logic : Executable ≢ Logic
 executable_not_logic e = cc
 
--- what makes abstract objects
+-- what makes abstract stobjs
 abbrev pub AbstractsCanBeMade : World → Type 0
 AbstractsCanBeMade w = (x : ℕ) (d : AbstractDescriptor) → definition w x ≡ Some (Abstract d) → HasAbstractCreator w x
 
--- objects that stand in one world stand in another
+-- stobjs that stand in one world stand in another
 record ObjectsStand (c w : World) : Type 0 where
   concrete : (x class : ℕ) (d : Descriptor) → definition c x ≡ Some (Concrete d class) → definition w x ≡ Some (Concrete d class)
   abstract : (x : ℕ) (d : AbstractDescriptor) → definition c x ≡ Some (Abstract d) → definition w x ≡ Some (Abstract d)
 
--- an object of a world can be made in one where it stands
-object_made : (c w : World) → ObjectsStand c w → IsStocked w → AbstractsCanBeMade w → (x : ℕ) → is_object_name c x ≡ true → CanBeMade w x
+-- a stobj of a world can be made in one where it stands
+object_made : (c w : World) → ObjectsStand c w → IsStocked w → AbstractsCanBeMade w → (x : ℕ) → is_stobj_name c x ≡ true → CanBeMade w x
 object_made c w stand stocked abstracts x e = go (definition c x) refl e
   where
     go : (d : Option Definition) → definition c x ≡ d → is_some (option_and_then class_in d) ≡ true → CanBeMade w x
@@ -93,8 +93,8 @@ object_made c w stand stocked abstracts x e = go (definition c x) refl e
 module _ (w : World) (stocked : IsStocked w) (abstracts : AbstractsCanBeMade w) (n : ℕ) where
   suited_from : (c : World) → ObjectsStand c w → (scope : Scope) (f : Core) (expected : List Out) → first_fault c Executable scope f expected ≡ None → KnowsForm n f → EachNode HasSeveral f → IsSuited w n f
   suited_from c stand scope f expected e known several =
-      suited_of c w n Executable (λ object names producer body scope formal expected hold.
-      object_made c w stand stocked abstracts object (local_object c scope expected object names producer (not_false (with_local_holds c scope expected object names producer) (s14 c Executable (here (WithLocal object names producer body) scope formal expected) executable_not_logic hold))))
+      suited_of c w n Executable (λ stobj names producer body scope formal expected hold.
+      object_made c w stand stocked abstracts stobj (local_object c scope expected stobj names producer (not_false (with_local_holds c scope expected stobj names producer) (s14 c Executable (here (WithLocal stobj names producer body) scope formal expected) executable_not_logic hold))))
       f scope None expected (accepted_first c Executable scope f expected e) known several
 
   pub accepted_suited : (scope : Scope) (f : Core) (expected : List Out) → first_fault w Executable scope f expected ≡ None → KnowsForm n f → EachNode HasSeveral f → IsSuited w n f

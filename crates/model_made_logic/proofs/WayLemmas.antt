@@ -5,11 +5,12 @@ use Rattle.std.specs.Str.{bytes_eq}
 use Rattle.model_objects.specs.Object.{Object, Integer, Symbol, Text, Pair}
 use Rattle.model_objects.specs.Named.{Knows}
 use Rattle.model_symbols.specs.Symbols.{QualifiedName}
-use Rattle.model_expansion.specs.Forms.{elements, among, name_of, is_keyword}
+use Rattle.model_expansion.specs.Forms.{elements, symbol_name, is_keyword}
 use Rattle.model_expansion.specs.Faults.{Refusal, NotSupported}
 use Rattle.model_stobjs.specs.Heads.{event_heads, is_skipped, is_unsupported}
 use Rattle.model_books.specs.Commands.{Ways, bad_shape, only_symbol, cells_way, keyword_way, headed_way, way_of}
 use Rattle.model_books_laws.proofs.WayLemmas.{ShowHolds}
+use Rattle.model_terms.specs.Classes.{has}
 
 module _ {O : Type 0} (P : O → Type 0) (w : Ways O) (symbols : List QualifiedName) (n : ℕ) where
   pub record KnownWays : Type 0 where
@@ -40,12 +41,12 @@ module _ {O : Type 0} (P : O → Type 0) (w : Ways O) (symbols : List QualifiedN
 
     keyword_holds : (head : ℕ) (d : Object ℕ) → P (keyword_way w symbols head d)
     keyword_holds head d =
-        holds_if (bytes_eq (name_of symbols head) (codes "SHOW")) _ _ (show_holds (only_symbol w symbols (elements d)) (bad_shape w symbols head) (h.refused _))
-        (holds_if (bytes_eq (name_of symbols head) (codes "CELLS")) _ _ (cells_hold head (elements d)) (h.refused (NotSupported head)))
+        holds_if (bytes_eq (symbol_name symbols head) (codes "SHOW")) _ _ (show_holds (only_symbol w symbols (elements d)) (bad_shape w symbols head) (h.refused _))
+        (holds_if (bytes_eq (symbol_name symbols head) (codes "CELLS")) _ _ (cells_hold head (elements d)) (h.refused (NotSupported head)))
 
     headed_holds : (head : ℕ) (d : Object ℕ) → Knows n (Pair (Symbol head) d) → P (headed_way w symbols head d)
     headed_holds head d k =
-        holds_if (among head event_heads) _ _ (h.event head d k.1)
+        holds_if (has event_heads head) _ _ (h.event head d k.1)
         (holds_if (is_skipped head) _ _ h.skipped
         (holds_if (is_unsupported head) _ _ (h.refused (NotSupported head)) (holds_if (is_keyword symbols head) _ _ (keyword_holds head d) (h.expression (Pair (Symbol head) d) k))))
 

@@ -10,11 +10,11 @@ use Rattle.model_lists.specs.Types.{ValueType, Anything, OneOf, Either, Both, wo
 use Rattle.model_lists.specs.Layouts.{Layout}
 use Rattle.model_terms.specs.Worlds.{World, Definition, Shape, Scalar, Array, Hash, Child, Children, Field, OptionalFormal, definition, Primitive, Defined, Macro, Constant, Concrete, Generated, Abstract, OfAbstract, Named, Signed}
 use Rattle.model_terms.specs.Cores.{Core, Var, Const, If, Let, Mv, MvLet, StobjLet, WithLocal, MustBeEqual, Call}
-use Rattle.model_eval.specs.Worlds.{most_nested, field_type, shape_layout, fields_layout, defined_layout, layout_within}
+use Rattle.model_eval.specs.StobjLayouts.{most_nested, field_type, shape_layout, fields_layout, defined_layout, layout_within}
 use Rattle.model_expansion_forms.specs.Nodes.{HasConstant, IsBelow}
 use Rattle.model_expansion_forms.specs.Rows.{AreKnownDefaults}
 use Rattle.model_expansion_forms.proofs.NodeLemmas.{each_wider}
-use Rattle.model_follows.specs.Worlds.{TypeSymbols, LayoutSymbols}
+use Rattle.model_follows.specs.FollowedWorlds.{TypeSymbols, LayoutSymbols}
 use Rattle.model_follows.proofs.ThingLemmas.{knows_more}
 use Rattle.model_made.proofs.WorldLemmas.{EachDefinition, each_found, definition_is}
 use Rattle.model_made_logic.specs.Known.{KnowsForm, KnowsShape, KnowsFields, KnowsDefinition, KnowsDefinitions, KnowsWorld}
@@ -180,7 +180,7 @@ module _ (m n : ℕ) (l : m ≤ n) where
   constant_more (Mv parts) h = tt
   constant_more (MvLet names bound body) h = tt
   constant_more (StobjLet names bound vars producer consumer) h = tt
-  constant_more (WithLocal object names producer body) h = tt
+  constant_more (WithLocal stobj names producer body) h = tt
   constant_more (MustBeEqual logic exec) h = tt
   constant_more (Call f actuals) h = tt
 

@@ -1,4 +1,4 @@
--- What it is for symbols to be known: those of values, of live objects, of core forms and of worlds; and how known symbols grow.
+-- What it is for symbols to be known: those of values, of live stobjs, of core forms and of worlds; and how known symbols grow.
 use Rattle.std.specs.Prelude.{◌≡◌, ℕ, ◌<◌, ◌≤◌, List, [], ◌∷◌, length, Some, unwrap_or}
 use Rattle.model_objects.specs.Named.{Knows}
 use Rattle.model_symbols.specs.Symbols.{QualifiedName, Package}
@@ -6,17 +6,17 @@ use Rattle.model_symbols.specs.Tables.{IsTable}
 use Rattle.model_terms.specs.Cores.{Core}
 use Rattle.model_terms.specs.Worlds.{World, Definition, Shape, Scalar, Array, Hash, Child, Children, Field, Function, FunctionOfAbstract, Primitive, Defined, Macro, Constant, Concrete, Generated, Abstract, OfAbstract, Named, Signed, definition}
 use Rattle.model_eval.specs.Outcomes.{Stobjs, Outcome, Gives, Stops, Unknown}
-use Rattle.model_eval.specs.Scopes.{Variables}
+use Rattle.model_eval.specs.Variables.{Variables}
 use Rattle.model_accepted.specs.Threaded.{layout_of}
 use Rattle.model_expansion_forms.specs.Nodes.{EachNode, HasConstant, IsBelow}
 use Rattle.model_expansion_forms.specs.Rows.{AreKnownDefaults}
 use Rattle.model_books.specs.Opening.{Session}
-use Rattle.model_follows.specs.Worlds.{LayoutSymbols, KnowsList}
+use Rattle.model_follows.specs.FollowedWorlds.{LayoutSymbols, KnowsList}
 use Rattle.model_follows.specs.Follows.{KnowsShown, KnowsAll, table_of}
 
--- ---- values, objects and forms
+-- ---- values, stobjs and forms
 
--- the symbols in the list of each object are known
+-- the symbols in the list of each stobj are known
 abbrev pub KnowsStobjs : ℕ → Stobjs ℕ → Type 0
 KnowsStobjs n [] = Unit {0}
 KnowsStobjs n (o ∷ os) = KnowsList n o.1 × KnowsStobjs n os
@@ -62,11 +62,11 @@ pub record KnowsDefinitions (w : World) (n : ℕ) : Type 0 where
 
 -- ---- worlds and sessions
 
--- the symbols are a table, and those of definitions and live objects are among them
+-- the symbols are a table, and those of definitions and live stobjs are among them
 pub record IsKnownSession (s : Session) : Type 0 where
   pub enough : 2 ≤ length s.symbols
-  pub table : IsTable (table_of s.standing.packages s.symbols)
-  pub definitions : KnowsDefinitions s.standing.world (length s.symbols)
+  pub table : IsTable (table_of s.environment.packages s.symbols)
+  pub definitions : KnowsDefinitions s.environment.world (length s.symbols)
   pub live : KnowsStobjs (length s.symbols) s.stobjs
 
 -- so many symbols are all that stand in what an evaluation takes from the world
@@ -82,7 +82,7 @@ pub record Grows (packages : List Package) (old new : List QualifiedName) : Type
   pub longer : length old ≤ length new
   pub table : IsTable (table_of packages old) → IsTable (table_of packages new)
 
--- an evaluation that began with these symbols ends with more: those of its values and of the live objects are among them
+-- an evaluation that began with these symbols ends with more: those of its values and of the live stobjs are among them
 abbrev pub EndsKnown : List Package → List QualifiedName → Outcome ℕ → Type 0
 EndsKnown packages old (Gives values s) = Grows packages old s.symbols × KnowsAll (length s.symbols) values × KnowsStobjs (length s.symbols) s.stobjs
 EndsKnown packages old (Stops stop origin s) = Grows packages old s.symbols × KnowsStobjs (length s.symbols) s.stobjs

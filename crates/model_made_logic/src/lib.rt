@@ -1,9 +1,9 @@
 //! What sessions that commands have made give to the logic: known symbols, tables, lists that fit.
 #![tactic(auto)]
 
-ghost use Rattle.model_made_logic.specs.Laws.{AcceptedFormsAreSuited, CommandsKeepTables, DefinitionsSupply, EvaluationKeepsKnown, MadeObjectsAreStocked, MadeSessionsAreKnown, MadeWorldsAreFollowed};
+ghost use Rattle.model_made_logic.specs.Laws.{AcceptedFormsAreSuited, CommandsKeepTables, DefinitionsSupply, EvaluationKeepsKnown, MadeStobjsAreStocked, MadeSessionsAreKnown, MadeWorldsAreFollowed};
 
-/// Checked evaluation keeps known symbols known, those of values and of live objects, and a table of symbols a table.
+/// Checked evaluation keeps known symbols known, those of values and of live stobjs, and a table of symbols a table.
 #[tactic(auto, using(crate::proofs::EvaluationLemmas::evaluation_keeps_known))]
 pub fn evaluation_keeps_known()
     ensures { EvaluationKeepsKnown }
@@ -15,34 +15,34 @@ pub fn definitions_supply()
     ensures { DefinitionsSupply }
 {}
 
-/// A command, and the reading of its form, keep the symbols of a session a table, and those of its definitions and live objects known.
+/// A command, and the reading of its form, keep the symbols of a session a table, and those of its definitions and live stobjs known.
 #[tactic(auto, using(crate::proofs::CommandLemmas::commands_keep_tables))]
 pub fn commands_keep_tables()
     ensures { CommandsKeepTables }
 {}
 
-/// The symbols of each session that commands have made are a table, and those of its definitions and live objects are known.
+/// The symbols of each session that commands have made are a table, and those of its definitions and live stobjs are known.
 #[tactic(auto, using(crate::proofs::LawLemmas::made_sessions_known))]
 pub fn made_sessions_are_known()
     ensures { MadeSessionsAreKnown }
 {}
 
-/// In each session that commands have made the functions of concrete objects have their inputs in the order that the logic
+/// In each session that commands have made the functions of concrete stobjs have their inputs in the order that the logic
 /// asks, and initial values meet their types.
-#[tactic(auto, using(crate::proofs::LawLemmas::made_objects_stocked))]
-pub fn made_objects_are_stocked()
-    ensures { MadeObjectsAreStocked }
+#[tactic(auto, using(crate::proofs::LawLemmas::made_stobjs_stocked))]
+pub fn made_stobjs_are_stocked()
+    ensures { MadeStobjsAreStocked }
 {}
 
 /// Each form that a command expands to and that is accepted is as the logic asks: its constants are known, several values are
-/// two at least, and its local objects can be made.
+/// two at least, and its local stobjs can be made.
 #[tactic(auto, using(crate::proofs::LawLemmas::accepted_forms_suited))]
 pub fn accepted_forms_are_suited()
     ensures { AcceptedFormsAreSuited }
 {}
 
-/// The functions that run of a world that commands have made are as the logic asks, abstract objects can be made there, and
-/// their functions have logic functions; where no function is of an abstract object, the world is as the logic asks.
+/// The functions that run of a world that commands have made are as the logic asks, abstract stobjs can be made there, and
+/// their functions have logic functions; where no function is of an abstract stobj, the world is as the logic asks.
 #[tactic(auto, using(crate::proofs::LawLemmas::made_worlds_followed))]
 pub fn made_worlds_are_followed()
     ensures { MadeWorldsAreFollowed }

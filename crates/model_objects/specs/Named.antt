@@ -1,4 +1,4 @@
--- The symbols in an object.
+-- The symbols in an object (ACL2's manual, topic SYMBOLP).
 use Rattle.std.specs.Prelude.{ℕ, ◌<◌}
 use Rattle.model_objects.specs.Object.{Object, Integer, Symbol, Text, Pair}
 

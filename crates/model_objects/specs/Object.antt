@@ -1,4 +1,5 @@
--- Objects, over any kind of symbols: in a heap a symbol is its number, in a text and in the logic it is two names.
+-- Objects, over any kind of symbols: in a heap a symbol is its number, in a text and in the logic it is two names (ACL2's
+-- manual, topics LEXORDER, SYMBOLP, STRINGP, CONSP).
 use Rattle.std.specs.Prelude.{ℕ, ◌+◌, ◌/◌, ◌^◌, List, [], ◌∷◌, length, ℤ, pos, negsuc, Bool, true, nat_lt, nat_le, ◌&&◌, if◌then◌else◌}
 use Rattle.std.specs.Ordering.{int_cmp, nat_cmp, ordering_then}
 use Rattle.std.specs.Cmp.Lexicographic.{slice_cmp}

@@ -1,4 +1,4 @@
--- How the logic stores an object: as what a stack machine builds it from.
+-- How the logic stores an object: as what a stack machine builds it from (ACL2's manual, topic CONS).
 use Rattle.std.specs.Prelude.{◌≡◌, ℕ, List, [], ◌∷◌, ◌++◌, ℤ, pos, refl, ◌⊎◌}
 use Rattle.std.proofs.Common.{ap, sym, ◌∙◌, inl, inr}
 use Rattle.std.proofs.lemmas.List.{append_assoc, append-nil}

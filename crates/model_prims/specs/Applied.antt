@@ -1,4 +1,5 @@
--- A primitive applied: in the logic, without guard and bounds; and checked, with its guard and the stops of its value.
+-- A primitive applied: in the logic, without guard and bounds; and checked, with its guard and the stops of its value (ACL2's
+-- manual, topic GUARD).
 use Rattle.std.specs.Prelude.{ℕ, List, Bool, true, false, Option, Some, None, ℤ, nat_le, unwrap_or, slice_get, if◌then◌else◌}
 use Rattle.std.specs.Int.{int_pow}
 use Rattle.model_objects.specs.Object.{Object, Integer, Symbol, weight, max_weight}

@@ -1,4 +1,4 @@
--- The guard of each primitive.
+-- The guard of each primitive (ACL2's manual, topic GUARD).
 use Rattle.std.specs.Prelude.{Bool, true, not, ◌&&◌, ◌||◌, pos}
 use Rattle.model_objects.specs.Object.{Object, Integer}
 use Rattle.model_prims.specs.Kinds.{SymbolKind, is_integer, is_symbol, is_string, is_pair, is_natural, is_nil, same_object}

@@ -1,4 +1,4 @@
--- What the primitives need to know of symbols, and what is said of objects over them.
+-- What the primitives need to know of symbols, and what is said of objects over them (ACL2's manual, topic EQUAL).
 use Rattle.std.specs.Prelude.{ℕ, pos, negsuc, Bool, true, false, nat_eq, not, ◌&&◌, ◌||◌, if◌then◌else◌}
 use Rattle.std.specs.Ordering.{int_eq}
 use Rattle.std.specs.Str.{bytes_eq}

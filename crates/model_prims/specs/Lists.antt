@@ -1,4 +1,4 @@
--- What the primitives find in lists, and make of them.
+-- What the primitives find in lists, and make of them (ACL2's manual, topics NTH, MEMBER, ASSOC, APPEND).
 use Rattle.std.specs.Prelude.{ℕ, ◌+◌, ◌-◌, length, replicate, Bool, false, ◌&&◌, nat_eq, if◌then◌else◌}
 use Rattle.model_objects.specs.Object.{Object, Integer, Symbol, Text, Pair, list_onto}
 use Rattle.model_prims.specs.Kinds.{SymbolKind, nil_of, is_pair, same_object}

@@ -1,4 +1,4 @@
--- The arithmetic of the primitives, on integers of any size.
+-- The arithmetic of the primitives, on integers of any size (ACL2's manual, topics FLOOR, MOD, ASH, LOGAND, EXPT).
 use Rattle.std.specs.Prelude.{ℕ, zero, suc, ◌+◌, ◌-◌, ◌/◌, ◌%◌, ◌^◌, ℤ, pos, negsuc, ◌-ℤ◌, ◌*ℤ◌, neg_ℤ, Bool, true, false, Option, Some, None, nat_eq, nat_lt, not, ◌||◌, bit_and, bit_or, bit_xor, unsigned_abs, int_div, int_lt, if◌then◌else◌}
 use Rattle.std.specs.Int.{int_pow, int_shr}
 use Rattle.model_objects.specs.Object.{Object, Integer, Symbol, Text, Pair, fits_128}

@@ -1,4 +1,4 @@
--- The table of the primitives.
+-- The table of the primitives (ACL2's manual, topic PRIMITIVE).
 use Rattle.std.specs.Prelude.{ℕ, List, [], ◌∷◌, map, codes, Option, unwrap_or, slice_get, position}
 use Rattle.model_objects.specs.Object.{Object, Symbol, list_onto}
 use Rattle.model_symbols.specs.Symbols.{QualifiedName, same_name}

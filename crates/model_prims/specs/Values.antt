@@ -1,4 +1,4 @@
--- The value of each primitive, at any objects and without a bound.
+-- The value of each primitive, at any objects and without a bound (ACL2's manual, topic PROGRAMMING).
 use Rattle.std.specs.Prelude.{ℕ, List, [], ◌++◌, Bool, not, ◌||◌, ℤ, pos, negsuc, ◌+ℤ◌, ◌*ℤ◌, neg_ℤ, int_lt, if◌then◌else◌}
 use Rattle.model_objects.specs.Object.{Object, Integer, Symbol, Text, Pair}
 use Rattle.model_symbols.specs.Symbols.{QualifiedName}

@@ -1,4 +1,5 @@
--- The definition of an abstract object: reading it, its refusals in order, and what it brings.
+-- The definition of an abstract stobj: reading it, its refusals in order, and what it brings (ACL2's manual, topic
+-- DEFABSSTOBJ).
 use Rattle.std.specs.Prelude.{ℕ, ◌+◌, List, [], ◌∷◌, ◌++◌, map, length, replicate, Bool, true, false, not, ◌&&◌, ◌||◌, Option, Some, None, nat_eq, nat_lt, nat_le, option_map, option_and_then, is_some, position, unwrap_or, codes, if◌then◌else◌}
 use Rattle.std.specs.Option.{option_or, option_map_or}
 use Rattle.std.specs.List.{flat_map, zip, list_all}
@@ -10,21 +11,21 @@ use Rattle.model_terms.specs.declared.role.AbstractRole.{AbstractRole}
 use Rattle.model_terms.specs.declared.role.AbstractRole.TheVariants as abstract_role
 use Rattle.model_terms.specs.Cores.{Core, Var}
 use Rattle.model_terms.specs.Worlds.{World, Out, Ordinary, Stobj, Signature, Entry, Scope, Function, Descriptor, AbstractFunction, AbstractDescriptor, FunctionOfAbstract, Definition, Primitive, Defined, Macro, Constant, Concrete, Generated, Abstract, OfAbstract, Named, Signed, definition}
-use Rattle.model_terms.specs.Classes.{stobjs}
+use Rattle.model_terms.specs.Classes.{stobjs, has}
 use Rattle.model_terms.specs.Outputs.{signature_of}
-use Rattle.model_terms.specs.Children.{descriptor_of, is_internal, is_executable}
+use Rattle.model_terms.specs.Accessors.{descriptor_of, is_internal, is_executable}
 use Rattle.model_terms.specs.Nested.{is_stobj, same_kinds}
 use Rattle.model_terms.specs.Faults.{Fault, first_fault}
 use Rattle.model_terms.specs.Sites.{one_ordinary}
 use Rattle.model_expansion.specs.Words.{defabsstobj_word}
-use Rattle.model_expansion.specs.Forms.{elements, each, each_of, symbol, among, name_of}
+use Rattle.model_expansion.specs.Forms.{elements, each, each_of, symbol, symbol_name, symbol_or_nil}
 use Rattle.model_expansion.specs.TypeTerms.{true_core}
 use Rattle.model_expansion.specs.Faults.{Refusal, BadShape, Expand, FoundationNotConcrete, MissingFunction, SignatureMismatch, GuardNotExecutable}
 use Rattle.model_expansion.specs.Expansion.{Progress}
 use Rattle.model_stobjs.specs.Answers.{EventResult, Grants, unless, needing, first_given}
 use Rattle.model_stobjs.specs.Heads.{name_in_use, bad_name}
 use Rattle.model_stobjs.specs.Keys.{Keyed, key_value, is_given, keys_in}
-use Rattle.model_stobjs.specs.Objects.{Making, MadeNames, symbol_beside, names_made, number_at, room_for}
+use Rattle.model_stobjs.specs.Descriptors.{Making, MadeNames, symbol_beside, names_made, number_at, room_for}
 use Rattle.model_stobjs.specs.Guards.{Renaming, renamed_core, with_functions, binds, generated_guard}
 
 -- ---- as it is written
@@ -88,11 +89,11 @@ foundation_given ks =
 
 abbrev pub written_with : List QualifiedName → Object ℕ → List Keyed → Option WrittenAbstract
 written_with symbols name ks =
-    option_and_then (λ c. option_and_then (λ r. option_and_then (λ k. option_and_then (λ f. option_map (λ xs. record {
+    option_and_then (λ c. option_and_then (λ r. option_and_then (λ maker. option_and_then (λ f. option_map (λ xs. record {
       name = name;
       foundation = c;
       recognizer = r;
-      creator = k;
+      creator = maker;
       corr = f;
       exports = xs;
     }) (exports_if_given symbols (key_value (codes "EXPORTS") ks)))
@@ -115,9 +116,6 @@ abbrev pub listed : Option (Object ℕ) → List (Object ℕ)
 listed None = []
 listed (Some o) = o ∷ []
 
-abbrev pub number : Object ℕ → ℕ
-number o = unwrap_or (symbol o) nil
-
 -- the symbol that a name made beside another would be, where it is known; one that is not known is of that other's own package
 abbrev pub known_beside : List Package → List QualifiedName → Making → Option (Object ℕ)
 known_beside packages symbols m = option_map (λ n. Symbol n) (number_of symbols (symbol_beside packages [] symbols m))
@@ -125,18 +123,18 @@ known_beside packages symbols m = option_map (λ n. Symbol n) (number_of symbols
 abbrev pub name_or_made : List Package → List QualifiedName → WrittenFunction → Making → List (Object ℕ)
 name_or_made packages symbols f m = listed (option_or f.name (known_beside packages symbols m))
 
--- the names of the object, the recognizer, the creator and the exports, written or made
+-- the names of the stobj, the recognizer, the creator and the exports, written or made
 abbrev pub names_tested : List Package → List QualifiedName → WrittenAbstract → List (Object ℕ)
 names_tested packages symbols a =
-    let st = number a.name in
-    let text = name_of symbols st in
+    let st = symbol_or_nil a.name in
+    let text = symbol_name symbols st in
     a.name
     ∷ (name_or_made packages symbols a.recognizer (st, text ++ codes "P")
     ++ (name_or_made packages symbols a.creator (st, codes "CREATE-" ++ text)
     ++ flat_map (λ (f : WrittenFunction). listed f.name) a.exports))
 
 abbrev pub name_number : WrittenFunction → ℕ
-name_number f = option_map_or number f.name nil
+name_number f = option_map_or symbol_or_nil f.name nil
 
 -- a name that is written out, or else one that is made
 abbrev pub Slot : Type 0
@@ -144,17 +142,17 @@ Slot = Option ℕ × Making
 
 abbrev pub export_slots : List QualifiedName → WrittenFunction → List Slot
 export_slots symbols f =
-    let x = name_number f in (f.logic, (x, name_of symbols x ++ codes "$A")) ∷ (f.exec, (x, name_of symbols x ++ codes "$C")) ∷ []
+    let x = name_number f in (f.logic, (x, symbol_name symbols x ++ codes "$A")) ∷ (f.exec, (x, symbol_name symbols x ++ codes "$C")) ∷ []
 
 -- the foundation, the recognizer and its logic function, the creator and its logic function, the corr-fn, and those of exports
 abbrev pub slots : List QualifiedName → WrittenAbstract → List Slot
 slots symbols a =
-    let st = number a.name in
-    let text = name_of symbols st in
+    let st = symbol_or_nil a.name in
+    let text = symbol_name symbols st in
     (a.foundation, (st, text ++ codes "$C"))
-    ∷ (option_map number a.recognizer.name, (st, text ++ codes "P"))
+    ∷ (option_map symbol_or_nil a.recognizer.name, (st, text ++ codes "P"))
     ∷ (a.recognizer.logic, (st, text ++ codes "$AP"))
-    ∷ (option_map number a.creator.name, (st, codes "CREATE-" ++ text))
+    ∷ (option_map symbol_or_nil a.creator.name, (st, codes "CREATE-" ++ text))
     ∷ (a.creator.logic, (st, codes "CREATE-" ++ (text ++ codes "$A")))
     ∷ (a.corr, (st, text ++ codes "$CORR"))
     ∷ flat_map (export_slots symbols) a.exports
@@ -180,15 +178,15 @@ foundations_creator w c = option_map_or (λ (d : Descriptor). d.creator) (descri
 
 -- the exports, whose logic and exec functions have the numbers from k on
 abbrev pub exports_with : List WrittenFunction → List ℕ → ℕ → List AbstractFunction
-exports_with [] numbers k = []
-exports_with (f ∷ fs) numbers k =
-    record { name = name_number f; logic = number_at numbers k; exec = number_at numbers (k + 1) } ∷ exports_with fs numbers (k + 2)
+exports_with [] numbers i = []
+exports_with (f ∷ fs) numbers i =
+    record { name = name_number f; logic = number_at numbers i; exec = number_at numbers (i + 1) } ∷ exports_with fs numbers (i + 2)
 
 abbrev pub descriptor_with : World → WrittenAbstract → List ℕ → AbstractDescriptor
 descriptor_with w a numbers =
     let c = number_at numbers 0 in
     record {
-      name = number a.name;
+      name = symbol_or_nil a.name;
       foundation = c;
       corr = number_at numbers 5;
       recognizer = record { name = number_at numbers 1; logic = number_at numbers 2; exec = unwrap_or a.recognizer.exec (foundations_recognizer w c) };
@@ -248,7 +246,7 @@ module _ (w : World) where
   may_be_exec_of None = false
   may_be_exec_of (Some d) = is_executable d && not (is_internal w d)
 
-  -- the formals of a function; those of an object's functions have no names that matter
+  -- the formals of a function; those of a stobj's functions have no names that matter
   abbrev pub formals_in : Option Definition → List ℕ
   formals_in None = []
   formals_in (Some (Primitive name row)) = replicate row.arity nil
@@ -274,7 +272,7 @@ module _ (w : World) where
   is_logical None = false
   is_logical (Some d) = not (is_executable d)
 
-  -- one object, which is this one
+  -- one stobj, which is this one
   abbrev pub is_only : ℕ → List ℕ → Bool
   is_only c [] = false
   is_only c (x ∷ []) = nat_eq x c
@@ -326,13 +324,13 @@ module _ (w : World) where
 
   -- ---- what it brings
 
-  -- the formals with another name where the object stands
-  abbrev pub with_object_named : ℕ → List Out → List ℕ → List ℕ
-  with_object_named st [] xs = []
-  with_object_named st (k ∷ ks) [] = []
-  with_object_named st (k ∷ ks) (x ∷ xs) = (if is_stobj k then st else x) ∷ with_object_named st ks xs
+  -- the formals with another name where the stobj stands
+  abbrev pub with_stobj_named : ℕ → List Out → List ℕ → List ℕ
+  with_stobj_named st [] xs = []
+  with_stobj_named st (k ∷ ks) [] = []
+  with_stobj_named st (k ∷ ks) (x ∷ xs) = (if is_stobj k then st else x) ∷ with_stobj_named st ks xs
 
-  -- the foundation's kind becomes the object's
+  -- the foundation's kind becomes the stobj's
   abbrev pub abstracted : ℕ → Out → Out
   abstracted st Ordinary = Ordinary
   abstracted st (Stobj c) = Stobj st
@@ -340,15 +338,15 @@ module _ (w : World) where
   abbrev pub abstracted_signature : ℕ → Signature → Signature
   abstracted_signature st s = record { ins = map (abstracted st) s.ins; outs = map (abstracted st) s.outs }
 
-  -- the formals of an export: those of the logic, the object under its own name
+  -- the formals of an export: those of the logic, the stobj under its own name
   abbrev pub export_formals : AbstractDescriptor → AbstractFunction → List ℕ
-  export_formals d f = with_object_named d.name (signature f.exec).ins (formals f.logic)
+  export_formals d f = with_stobj_named d.name (signature f.exec).ins (formals f.logic)
 
   abbrev pub guard_in : Option Definition → Core
   guard_in (Some (Defined f)) = f.guard
   guard_in d = true_core
 
-  -- the guard of the logic function, the object under its own name
+  -- the guard of the logic function, the stobj under its own name
   abbrev pub logic_guard : AbstractDescriptor → AbstractFunction → Core
   logic_guard d f = renamed_core (guard_in (definition w f.logic)) (zip (formals f.logic) (export_formals d f))
 
@@ -365,7 +363,7 @@ module _ (w : World) where
   abbrev pub function_of : AbstractDescriptor → AbstractFunction → AbstractRole → List ℕ → Signature → Core → Definition
   function_of d f what formals signature guard = OfAbstract (record {
     name = f.name;
-    object = d.name;
+    stobj = d.name;
     role = what;
     formals = formals;
     signature = signature;
@@ -377,7 +375,7 @@ module _ (w : World) where
   abbrev pub export_entry : AbstractDescriptor → AbstractFunction → Definition
   export_entry d f = function_of d f abstract_role.Export (export_formals d f) (abstracted_signature d.name (signature f.exec)) (export_guard d f)
 
-  -- the definitions that an abstract object brings
+  -- the definitions that an abstract stobj brings
   abbrev pub abstract_entries : AbstractDescriptor → World
   abstract_entries d =
       Abstract d

@@ -1,4 +1,4 @@
--- What an event ends with, and how refusals come in order.
+-- What an event ends with, and how refusals come in order (ACL2's manual, topic EVENTS).
 use Rattle.std.specs.Prelude.{ℕ, List, [], ◌∷◌, Bool, true, false, Option, Some, None}
 use Rattle.model_eval.specs.Outcomes.{Stop}
 use Rattle.model_expansion.specs.Faults.{Refusal, Expand}

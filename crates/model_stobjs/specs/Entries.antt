@@ -1,4 +1,4 @@
--- The definitions that a concrete object brings to the world.
+-- The definitions that a concrete stobj brings to the world (ACL2's manual, topic DEFSTOBJ).
 use Rattle.std.specs.Prelude.{ℕ, ◌+◌, List, [], ◌∷◌, ◌++◌, map, Option, Some, None, unwrap_or}
 use Rattle.model_terms.specs.Worlds.{World, Out, Ordinary, Stobj, Signature, Shape, Scalar, Array, Hash, Child, Children, Field, Descriptor, GeneratedFunction, Definition, Concrete, Generated}
 use Rattle.model_terms.specs.Classes.{class_of}
@@ -12,9 +12,9 @@ Task = Role × Signature
 abbrev pub task : Role → List Out → List Out → Task
 task r ins outs = (r, record { ins = ins; outs = outs })
 
-module _ (object : ℕ) where
+module _ (stobj : ℕ) where
   abbrev st : Out
-  st = Stobj object
+  st = Stobj stobj
 
   abbrev pub field_recognizer : Task
   field_recognizer = task role.FieldRecognizer (Ordinary ∷ []) (Ordinary ∷ [])
@@ -48,17 +48,17 @@ module _ (object : ℕ) where
       ∷ task role.Access (Ordinary ∷ st ∷ []) (Stobj child ∷ []) ∷ task role.Update (Ordinary ∷ Stobj child ∷ st ∷ []) (st ∷ []) ∷ []
 
   abbrev pub function_of : Option ℕ → ℕ → Task → GeneratedFunction
-  function_of field name t = record { name = name; object = object; field = field; role = t.0; signature = t.1 }
+  function_of field name t = record { name = name; stobj = stobj; field = field; role = t.0; signature = t.1 }
 
   abbrev pub named_tasks : ℕ → List ℕ → List Task → List GeneratedFunction
-  named_tasks k [] tasks = []
-  named_tasks k (x ∷ xs) [] = []
-  named_tasks k (x ∷ xs) (t ∷ ts) = function_of (Some k) x t ∷ named_tasks k xs ts
+  named_tasks i [] tasks = []
+  named_tasks i (x ∷ xs) [] = []
+  named_tasks i (x ∷ xs) (t ∷ ts) = function_of (Some i) x t ∷ named_tasks i xs ts
 
   -- the functions of the fields, the first of which has this number
   abbrev pub field_functions : ℕ → List Field → List GeneratedFunction
-  field_functions k [] = []
-  field_functions k (f ∷ fs) = named_tasks k f.made (field_tasks f.shape) ++ field_functions (k + 1) fs
+  field_functions i [] = []
+  field_functions i (f ∷ fs) = named_tasks i f.made (field_tasks f.shape) ++ field_functions (i + 1) fs
 
   abbrev pub recognizer_task : Task
   recognizer_task = task role.Recognizer (st ∷ []) (Ordinary ∷ [])
@@ -66,12 +66,12 @@ module _ (object : ℕ) where
   abbrev pub creator_task : Task
   creator_task = task role.Creator [] (st ∷ [])
 
--- the functions that an object comes with, in order
+-- the functions that a stobj comes with, in order
 abbrev pub generated_functions : Descriptor → List GeneratedFunction
 generated_functions d =
     function_of d.name None d.recognizer (recognizer_task d.name) ∷ function_of d.name None d.creator (creator_task d.name) ∷ field_functions d.name 0 d.fields
 
--- the first object of its congruence class
+-- the first stobj of its congruence class
 abbrev pub class_for : World → Descriptor → ℕ
 class_for w d = go d.congruent_to where
   go : Option ℕ → ℕ

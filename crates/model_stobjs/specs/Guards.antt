@@ -1,4 +1,4 @@
--- The guards of functions as core forms, and core forms with other names in them.
+-- The guards of functions as core forms, and core forms with other names in them (ACL2's manual, topics DEFSTOBJ, GUARD).
 use Rattle.std.specs.Prelude.{ℕ, List, [], ◌∷◌, ◌++◌, pos, Bool, true, false, ◌||◌, Option, Some, None, nat_eq, option_map, option_and_then, slice_get, unwrap_or, if◌then◌else◌}
 use Rattle.std.specs.Option.{option_map_or}
 use Rattle.std.specs.List.{filter}
@@ -10,13 +10,15 @@ use Rattle.model_symbols.specs.Opening.{truth, nil}
 use Rattle.model_prims.specs.Kinds.{by_number, same_object}
 use Rattle.model_terms.specs.Cores.{Core, Cores, none, more, Var, Const, If, Let, Mv, MvLet, StobjLet, WithLocal, MustBeEqual, Call}
 use Rattle.model_terms.specs.Worlds.{World, Shape, Scalar, Array, Hash, Child, Children, Field, GeneratedFunction}
-use Rattle.model_terms.specs.Children.{field_of}
+use Rattle.model_terms.specs.Accessors.{field_of}
 use Rattle.model_terms.specs.declared.role.Role.{Role}
 use Rattle.model_terms.specs.declared.role.Role.TheVariants as role
 use Rattle.model_expansion.specs.Words.{integerp_word, symbolp_word, below_word}
-use Rattle.model_expansion.specs.Forms.{among, is}
+use Rattle.model_expansion.specs.Forms.{is}
 use Rattle.model_expansion.specs.TypeTerms.{true_core, false_core, call_core, and_core, not_below, integer_test, type_term}
-use Rattle.model_stobjs.specs.Objects.{most_elements, number_at}
+use Rattle.model_stobjs.specs.Descriptors.{number_at}
+use Rattle.model_lists.specs.Effects.{most_elements}
+use Rattle.model_terms.specs.Classes.{has}
 
 -- ---- names in core forms
 
@@ -27,7 +29,7 @@ abbrev pub renamed_name : Renaming → ℕ → ℕ
 renamed_name r x = unwrap_or (lookup (nat_eq x) r) x
 
 abbrev pub without_names : List ℕ → Renaming → Renaming
-without_names xs r = filter (λ (p : ℕ × ℕ). if among p.0 xs then false else true) r
+without_names xs r = filter (λ (p : ℕ × ℕ). if has xs p.0 then false else true) r
 
 -- a form with its free variables renamed
 unfoldable mutual
@@ -40,8 +42,8 @@ unfoldable mutual
   renamed_core (MvLet names bound body) r = MvLet names (renamed_core bound r) (renamed_core body (without_names names r))
   renamed_core (StobjLet names bound vars producer consumer) r =
       StobjLet names (renamed_cores bound r) vars (renamed_core producer (without_names names r)) (renamed_core consumer (without_names (names ++ vars) r))
-  renamed_core (WithLocal object names producer body) r =
-      WithLocal object names (renamed_core producer (without_names (object ∷ []) r)) (renamed_core body (without_names (object ∷ names) r))
+  renamed_core (WithLocal stobj names producer body) r =
+      WithLocal stobj names (renamed_core producer (without_names (stobj ∷ []) r)) (renamed_core body (without_names (stobj ∷ names) r))
   renamed_core (MustBeEqual logic exec) r = MustBeEqual (renamed_core logic r) (renamed_core exec r)
   renamed_core (Call f actuals) r = Call f (renamed_cores actuals r)
 
@@ -60,7 +62,7 @@ unfoldable mutual
   with_functions (MvLet names bound body) r = MvLet names (with_functions bound r) (with_functions body r)
   with_functions (StobjLet names bound vars producer consumer) r =
       StobjLet names (all_with_functions bound r) vars (with_functions producer r) (with_functions consumer r)
-  with_functions (WithLocal object names producer body) r = WithLocal object names (with_functions producer r) (with_functions body r)
+  with_functions (WithLocal stobj names producer body) r = WithLocal stobj names (with_functions producer r) (with_functions body r)
   with_functions (MustBeEqual logic exec) r = MustBeEqual (with_functions logic r) (with_functions exec r)
   with_functions (Call f actuals) r = Call (renamed_name r f) (all_with_functions actuals r)
 
@@ -74,12 +76,12 @@ unfoldable mutual
   binds (Var x) y = false
   binds (Const o) y = false
   binds (If a b c) y = binds a y || (binds b y || binds c y)
-  binds (Let names bound body) y = among y names || (any_binds bound y || binds body y)
+  binds (Let names bound body) y = has names y || (any_binds bound y || binds body y)
   binds (Mv parts) y = any_binds parts y
-  binds (MvLet names bound body) y = among y names || (binds bound y || binds body y)
+  binds (MvLet names bound body) y = has names y || (binds bound y || binds body y)
   binds (StobjLet names bound vars producer consumer) y =
-      among y names || (among y vars || (any_binds bound y || (binds producer y || binds consumer y)))
-  binds (WithLocal object names producer body) y = among y (object ∷ names) || (binds producer y || binds body y)
+      has names y || (has vars y || (any_binds bound y || (binds producer y || binds consumer y)))
+  binds (WithLocal stobj names producer body) y = has (stobj ∷ names) y || (binds producer y || binds body y)
   binds (MustBeEqual logic exec) y = binds logic y || binds exec y
   binds (Call f actuals) y = any_binds actuals y
 
@@ -87,11 +89,11 @@ unfoldable mutual
   any_binds none y = false
   any_binds (more f fs) y = binds f y || any_binds fs y
 
--- ---- guards of the functions of a concrete object
+-- ---- guards of the functions of a concrete stobj
 
 -- the actual of this number
 abbrev pub actual : List Core → ℕ → Core
-actual actuals k = unwrap_or (slice_get actuals k) false_core
+actual actuals i = unwrap_or (slice_get actuals i) false_core
 
 abbrev pub zero_core : Core
 zero_core = Const (Integer (pos 0))
@@ -116,9 +118,9 @@ abbrev pub and_value_guard : Core → Object ℕ → Core → Core
 and_value_guard test t v = if is truth t then test else and_core test (value_guard t v)
 
 abbrev pub key_guard : Test → Core → Core
-key_guard Eq k = call_core symbolp_word (k ∷ [])
-key_guard Eql k = If (integer_test k) true_core (call_core symbolp_word (k ∷ []))
-key_guard Equal k = true_core
+key_guard Eq key = call_core symbolp_word (key ∷ [])
+key_guard Eql key = If (integer_test key) true_core (call_core symbolp_word (key ∷ []))
+key_guard Equal key = true_core
 
 abbrev pub access_guard : Field → Shape → List Core → Core
 access_guard f (Scalar t o) actuals = true_core
@@ -158,6 +160,6 @@ role_guard role.HashRem f actuals = hash_guard f.shape actuals
 role_guard role.HashCount f actuals = true_core
 role_guard role.HashClear f actuals = true_core
 
--- the guard of a function of an object over these actuals, the object's variable among them
+-- the guard of a function of a stobj over these actuals, the stobj's variable among them
 unfoldable pub generated_guard : World → GeneratedFunction → List Core → Core
 generated_guard w g actuals = option_map_or (λ f. role_guard g.role f actuals) (field_of w g) true_core

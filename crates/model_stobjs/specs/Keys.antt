@@ -1,4 +1,4 @@
--- Keys with values, in the definitions of objects.
+-- Keys with values, in the definitions of stobjs (ACL2's manual, topic DEFSTOBJ).
 use Rattle.std.specs.Prelude.{ℕ, List, [], ◌∷◌, Bool, true, not, ◌&&◌, Option, Some, None, option_map, option_and_then, if◌then◌else◌}
 use Rattle.std.specs.List.{list_any, find}
 use Rattle.std.specs.Str.{bytes_eq}
@@ -11,11 +11,11 @@ abbrev pub Keyed : Type 0
 Keyed = List ℕ × Object ℕ
 
 abbrev pub is_given : List ℕ → List Keyed → Bool
-is_given name ks = list_any (λ (k : Keyed). bytes_eq name k.0) ks
+is_given name ks = list_any (λ (key : Keyed). bytes_eq name key.0) ks
 
 -- the value of a key
 abbrev pub key_value : List ℕ → List Keyed → Option (Object ℕ)
-key_value name ks = option_map (λ (k : Keyed). k.1) (find (λ (k : Keyed). bytes_eq name k.0) ks)
+key_value name ks = option_map (λ (key : Keyed). key.1) (find (λ (key : Keyed). bytes_eq name key.0) ks)
 
 module _ (symbols : List QualifiedName) (known : List (List ℕ)) where
   -- which of the keys that are known an object is
@@ -29,5 +29,5 @@ module _ (symbols : List QualifiedName) (known : List (List ℕ)) where
   -- pairs of a key that is known and an object, no key twice
   abbrev pub keys_in : List (Object ℕ) → Option (List Keyed)
   keys_in [] = Some []
-  keys_in (k ∷ []) = None
-  keys_in (k ∷ (value ∷ os)) = option_and_then (with_key (known_key k) value) (keys_in os)
+  keys_in (key ∷ []) = None
+  keys_in (key ∷ (value ∷ os)) = option_and_then (with_key (known_key key) value) (keys_in os)

@@ -1,7 +1,7 @@
 pub mod Answers
 pub mod Heads
 pub mod Keys
-pub mod Objects
+pub mod Descriptors
 pub mod Entries
 pub mod Guards
 pub mod Abstracts

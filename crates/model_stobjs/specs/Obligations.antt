@@ -1,4 +1,4 @@
--- The obligations of an abstract object (ACL2's manual, topic DEFABSSTOBJ): what each claims and its printed form, in the order
+-- The obligations of an abstract stobj (ACL2's manual, topic DEFABSSTOBJ): what each claims and its printed form, in the order
 -- in which they are printed.
 use Rattle.std.specs.Prelude.{ℕ, ◌+◌, List, [], ◌∷◌, ◌++◌, map, length, pos, Bool, true, false, not, ◌&&◌, Option, Some, None, nat_eq, nat_le, codes, if◌then◌else◌}
 use Rattle.std.specs.Option.{option_or}
@@ -10,12 +10,13 @@ use Rattle.model_lists.specs.Types.{and_word}
 use Rattle.model_terms.specs.Cores.{Core, Cores, none, more, Var, Const, If, Let, Mv, MvLet, StobjLet, WithLocal, MustBeEqual, Call, cores}
 use Rattle.model_terms.specs.Worlds.{World, Out, Ordinary, Stobj, Signature, Function, AbstractFunction, AbstractDescriptor, GeneratedFunction, Definition, Defined, Generated, definition}
 use Rattle.model_terms.specs.Nested.{is_stobj}
-use Rattle.model_expansion.specs.Words.{if_word, let_word, mv_word, mv_let_word, stobj_let_word, with_local_word, must_be_equal_word, implies_word, equal_word, nth_word}
-use Rattle.model_expansion.specs.Forms.{list, name_of}
+use Rattle.model_expansion.specs.Words.{if_word, let_word, mv_word, mv_let_word, with_local_word, must_be_equal_word, implies_word, equal_word, nth_word}
+use Rattle.model_expansion.specs.Forms.{list, symbol_name}
 use Rattle.model_expansion.specs.TypeTerms.{true_core, false_core}
 use Rattle.model_expansion.specs.Faults.{Refusal, TooLarge}
 use Rattle.model_stobjs.specs.Guards.{renamed_core, generated_guard}
-use Rattle.model_stobjs.specs.Abstracts.{signature, formals, with_object_named, export_formals, logic_guard}
+use Rattle.model_stobjs.specs.Abstracts.{signature, formals, with_stobj_named, export_formals, logic_guard}
+use Rattle.model_eval.specs.Evaluated.{stobj_let_word}
 
 -- ---- core forms as objects
 
@@ -36,8 +37,8 @@ unfoldable mutual
   core_object (MvLet names bound body) = list (Symbol mv_let_word ∷ symbols_list names ∷ core_object bound ∷ core_object body ∷ [])
   core_object (StobjLet names bound vars producer consumer) =
       list (Symbol stobj_let_word ∷ list (binding_objects bound names) ∷ symbols_list vars ∷ core_object producer ∷ core_object consumer ∷ [])
-  core_object (WithLocal object names producer body) =
-      list (Symbol with_local_word ∷ Symbol object ∷ list (Symbol mv_let_word ∷ symbols_list names ∷ core_object producer ∷ core_object body ∷ []) ∷ [])
+  core_object (WithLocal stobj names producer body) =
+      list (Symbol with_local_word ∷ Symbol stobj ∷ list (Symbol mv_let_word ∷ symbols_list names ∷ core_object producer ∷ core_object body ∷ []) ∷ [])
   core_object (MustBeEqual logic exec) = list (Symbol must_be_equal_word ∷ core_object logic ∷ core_object exec ∷ [])
   core_object (Call f actuals) = list (Symbol f ∷ core_objects actuals)
 
@@ -84,7 +85,7 @@ abbrev pub call_of : ℕ → List Core → Core
 call_of f fs = Call f (cores fs)
 
 abbrev pub part_of : ℕ → Core → Core
-part_of k f = call_of nth_word (Const (Integer (pos k)) ∷ f ∷ [])
+part_of i f = call_of nth_word (Const (Integer (pos i)) ∷ f ∷ [])
 
 -- ---- an obligation: whose it is, what it claims, its name, what is supposed, and what follows; all of the one, all of the other
 
@@ -118,7 +119,7 @@ module _ (w : World) (symbols : List QualifiedName) (d : AbstractDescriptor) whe
   obligation owner claim supposed follows = record {
     owner = owner;
     claim = claim;
-    name = name_of symbols owner ++ suffix_of claim;
+    name = symbol_name symbols owner ++ suffix_of claim;
     supposed = supposed;
     follows = follows;
   }
@@ -132,9 +133,9 @@ module _ (w : World) (symbols : List QualifiedName) (d : AbstractDescriptor) whe
   abbrev pub st : Core
   st = Var d.name
 
-  -- the logic formals with the foundation's name where the object stands
+  -- the logic formals with the foundation's name where the stobj stands
   abbrev pub exec_actuals : AbstractFunction → List ℕ
-  exec_actuals f = with_object_named w d.foundation (signature w f.exec).ins (formals w f.logic)
+  exec_actuals f = with_stobj_named w d.foundation (signature w f.exec).ins (formals w f.logic)
 
   abbrev pub logic_call : AbstractFunction → Core
   logic_call f = call_of f.logic (map Var (export_formals w d f))
@@ -151,8 +152,8 @@ module _ (w : World) (symbols : List QualifiedName) (d : AbstractDescriptor) whe
   output_equation (Stobj x) a c = corresponds c a
 
   abbrev pub output_equations : ℕ → List Out → Core → Core → List Core
-  output_equations k [] a c = []
-  output_equations k (o ∷ os) a c = output_equation o (part_of k a) (part_of k c) ∷ output_equations (k + 1) os a c
+  output_equations i [] a c = []
+  output_equations i (o ∷ os) a c = output_equation o (part_of i a) (part_of i c) ∷ output_equations (i + 1) os a c
 
   -- one output, or all of several
   abbrev pub outputs_correspond : List Out → Core → Core → List Core
@@ -169,11 +170,11 @@ module _ (w : World) (symbols : List QualifiedName) (d : AbstractDescriptor) whe
   abbrev pub guard_obligation : AbstractFunction → Core → List Obligation
   guard_obligation f e = if is_true_core e then [] else obligation f.name GuardTheorem (hypothesis f) (e ∷ []) ∷ []
 
-  -- the value is a list of the object, from the place where it stands among the outputs
+  -- the value is a list of the stobj, from the place where it stands among the outputs
   abbrev pub preserved_from : ℕ → Bool → List Out → Core → List Core
-  preserved_from k alone [] a = []
-  preserved_from k alone (Ordinary ∷ os) a = preserved_from (k + 1) alone os a
-  preserved_from k alone (Stobj x ∷ os) a = is_well_formed (if alone then a else part_of k a) ∷ []
+  preserved_from i alone [] a = []
+  preserved_from i alone (Ordinary ∷ os) a = preserved_from (i + 1) alone os a
+  preserved_from i alone (Stobj x ∷ os) a = is_well_formed (if alone then a else part_of i a) ∷ []
 
   abbrev pub preserved_obligation : AbstractFunction → List Core → List Obligation
   preserved_obligation f [] = []

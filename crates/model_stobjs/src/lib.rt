@@ -1,4 +1,4 @@
-//! The definition of concrete and of abstract objects: reading them, refusals in their order, what they bring to the world,
+//! The definition of concrete and of abstract stobjs: reading them, refusals in their order, what they bring to the world,
 //! and obligations. Definitions, and a law.
 #![tactic(auto)]
 

@@ -1,4 +1,4 @@
--- How a table grows: what a number stood for, it stands for.
+-- How a table grows: what a number stood for, it stands for (ACL2's manual, topic DEFPKG).
 use Rattle.std.specs.Prelude.{◌≡◌, ℕ, ◌≤◌, List, length, Some, slice_get}
 use Rattle.model_symbols.specs.Symbols.{QualifiedName, Package, Table}
 

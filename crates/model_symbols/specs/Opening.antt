@@ -1,4 +1,4 @@
--- The symbols and packages that every table begins with.
+-- The symbols and packages that every table begins with (ACL2's manual, topic DEFPKG).
 use Rattle.std.specs.Prelude.{ℕ, List, [], ◌∷◌, ◌++◌, map, ◌==◌, codes, if◌then◌else◌}
 use Rattle.model_symbols.specs.Symbols.{QualifiedName, Package, Table}
 

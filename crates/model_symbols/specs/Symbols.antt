@@ -1,5 +1,5 @@
--- Symbols and packages. A symbol is the name of its package and its own name; the symbols that are known stand in a list,
--- and a symbol's number is its place there.
+-- Symbols and packages. A symbol is the name of its package and its own name; the symbols that are known stand in a list, and
+-- a symbol's number is its place there (ACL2's manual, topics DEFPKG, PACKAGE-REINCARNATION-IMPORT-RESTRICTIONS).
 use Rattle.std.specs.Prelude.{ℕ, List, [], ◌∷◌, ◌++◌, length, Bool, ◌&&◌, not, Option, Some, None, slice_get, unwrap_or, position, nat_lt, if◌then◌else◌}
 use Rattle.std.specs.List.{list_any}
 use Rattle.std.specs.Str.{bytes_eq}

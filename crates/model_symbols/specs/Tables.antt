@@ -1,4 +1,4 @@
--- What holds of every table of symbols, and how a table takes one more symbol or package.
+-- What holds of every table of symbols, and how a table takes one more symbol or package (ACL2's manual, topic DEFPKG).
 use Rattle.std.specs.Prelude.{◌≡◌, ℕ, ◌≤◌, List, [], ◌∷◌, ◌++◌, length, map, Option, Some, None, slice_get}
 use Rattle.model_symbols.specs.Symbols.{QualifiedName, Package, Table, symbol_at, number_of, package_number, package_at, symbol_in, interned, import_clash, most_symbols}
 use Rattle.model_symbols.specs.Growth.{IsSymbol, IsPackage, AreDistinct}

@@ -1,4 +1,4 @@
--- Congruence of objects, and instances of signatures.
+-- Congruence of stobjs, and instances of signatures (ACL2's manual, topic DEFSTOBJ, on :CONGRUENT-TO).
 use Rattle.std.specs.Prelude.{ℕ, List, [], ◌∷◌, map, Bool, true, false, ◌&&◌, ◌||◌, not, Option, Some, None, nat_eq, is_some, unwrap_or, option_and_then, if◌then◌else◌}
 use Rattle.std.specs.List.{list_any, zip}
 use Rattle.std.specs.Map.{lookup}
@@ -6,31 +6,31 @@ use Rattle.model_terms.specs.Worlds.{World, Definition, Concrete, Abstract, Out,
 
 -- ---- congruence
 
--- an abstract object is alone in its class
+-- an abstract stobj is alone in its class
 abbrev pub class_in : Definition → Option ℕ
 class_in (Concrete d class) = Some class
 class_in (Abstract d) = Some d.name
 class_in d = None
 
--- the congruence class of an object
+-- the congruence class of a stobj
 abbrev pub class_of : World → ℕ → Option ℕ
 class_of w x = option_and_then class_in (definition w x)
 
-abbrev pub is_object_name : World → ℕ → Bool
-is_object_name w x = is_some (class_of w x)
+abbrev pub is_stobj_name : World → ℕ → Bool
+is_stobj_name w x = is_some (class_of w x)
 
 abbrev pub same_class : Option ℕ → Option ℕ → Bool
 same_class None b = false
 same_class (Some a) None = false
 same_class (Some a) (Some b) = nat_eq a b
 
--- both name objects, of one class
+-- both name stobjs, of one class
 abbrev pub congruent : World → ℕ → ℕ → Bool
 congruent w a b = same_class (class_of w a) (class_of w b)
 
 -- ---- instances
 
--- the objects among some kinds
+-- the stobjs among some kinds
 abbrev pub stobjs : List Out → List ℕ
 stobjs [] = []
 stobjs (Ordinary ∷ os) = stobjs os
@@ -62,7 +62,7 @@ renamed_out pairs (Stobj x) = Stobj (actual_of pairs x)
 abbrev pub renamed : List (ℕ × ℕ) → Signature → Signature
 renamed pairs s = record { ins = map (renamed_out pairs) s.ins; outs = map (renamed_out pairs) s.outs }
 
--- a signature with each object formal renamed to its actual
+-- a signature with each stobj formal renamed to its actual
 abbrev pub instance_of : World → Signature → List ℕ → Option Signature
 instance_of w s actuals =
     if all_congruent w (stobjs s.ins) actuals && not (repeats actuals) then Some (renamed (zip (stobjs s.ins) actuals) s) else None

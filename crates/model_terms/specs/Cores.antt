@@ -1,4 +1,5 @@
--- Core forms: what expansion leaves of a form. Names and functions are the numbers of their symbols.
+-- Core forms: what expansion leaves of a form. Names and functions are the numbers of their symbols (ACL2's manual, topic
+-- TERM).
 use Rattle.std.specs.Prelude.{ℕ, zero, suc, ◌+◌, List, [], ◌∷◌, Option, Some, None, option_map, option_and_then}
 use Rattle.model_objects.specs.Object.{Object}
 
@@ -12,7 +13,7 @@ mutual
     Mv : Cores → Core
     MvLet : List ℕ → Core → Core → Core  -- names, bound form, body
     StobjLet : List ℕ → Cores → List ℕ → Core → Core → Core  -- children, what is bound to them, variables, producer, consumer
-    WithLocal : ℕ → List ℕ → Core → Core → Core  -- object, names, producer, body
+    WithLocal : ℕ → List ℕ → Core → Core → Core  -- stobj, names, producer, body
     MustBeEqual : Core → Core → Core  -- the logic's part, and the one that would be run
     Call : ℕ → Cores → Core
 
@@ -45,14 +46,14 @@ children (Let names bound body) = and_last bound body
 children (Mv parts) = parts
 children (MvLet names bound body) = more bound (more body none)
 children (StobjLet names bound vars producer consumer) = more producer (more consumer none)
-children (WithLocal object names producer body) = more producer (more body none)
+children (WithLocal stobj names producer body) = more producer (more body none)
 children (MustBeEqual logic exec) = more logic (more exec none)
 children (Call f actuals) = actuals
 
 abbrev pub child_at : Cores → ℕ → Option Core
-child_at none k = None
+child_at none i = None
 child_at (more f fs) zero = Some f
-child_at (more f fs) (suc k) = child_at fs k
+child_at (more f fs) (suc i) = child_at fs i
 
 -- the number of a child, the number of a child of that, and so on
 abbrev pub Place : Type 0
@@ -61,7 +62,7 @@ Place = List ℕ
 -- the form at a place
 abbrev pub form_at : Core → Place → Option Core
 form_at f [] = Some f
-form_at f (k ∷ place) = option_and_then (λ g. form_at g place) (child_at (children f) k)
+form_at f (i ∷ place) = option_and_then (λ g. form_at g place) (child_at (children f) i)
 
 -- ---- what is read off a form
 

@@ -1,4 +1,5 @@
--- The first fault: the first place in preorder at which a rule fails, and the smallest rule that fails there.
+-- The first fault: the first place in preorder at which a rule fails, and the smallest rule that fails there (ACL2's manual,
+-- topic STOBJ).
 use Rattle.std.specs.Prelude.{ℕ, ◌+◌, List, [], ◌∷◌, ◌++◌, map, Bool, ◌||◌, ◌&&◌, not, Option, Some, None, option_map, option_to_list, unwrap_or, if◌then◌else◌}
 use Rattle.std.specs.Option.{option_or, option_map_or}
 use Rattle.std.specs.List.{list_any, flat_map, find}
@@ -8,9 +9,9 @@ use Rattle.model_terms.specs.declared.rule.Mode.{Mode}
 use Rattle.model_terms.specs.declared.rule.Mode.TheVariants.{Executable, Logic, Macro}
 use Rattle.model_terms.specs.Cores.{Core, Place}
 use Rattle.model_terms.specs.Worlds.{World, Out, Ordinary, Scope, Signature, OptionalFormal, MacroFormals}
-use Rattle.model_terms.specs.Classes.{is_object_name, has}
+use Rattle.model_terms.specs.Classes.{is_stobj_name, has}
 use Rattle.model_terms.specs.Outputs.{outs, signature_of}
-use Rattle.model_terms.specs.Children.{runs}
+use Rattle.model_terms.specs.Accessors.{runs}
 use Rattle.model_terms.specs.Rounds.{Member, formal_scope}
 use Rattle.model_terms.specs.Sites.{Site, Placed, here, below, one_ordinary, sites}
 use Rattle.model_terms.specs.Rules.{fails}
@@ -34,7 +35,7 @@ unfoldable pub first_in : World → Mode → List Placed → Option Fault
 first_in w mode [] = None
 first_in w mode (p ∷ ps) = option_or (fault_at w mode p) (first_in w mode ps)
 
--- the first fault at a form and below it, where the form may be an actual in the position of an object
+-- the first fault at a form and below it, where the form may be an actual in the position of a stobj
 unfoldable pub first_at : World → Mode → Scope → Core → Option ℕ → List Out → Option Fault
 first_at w mode scope f formal expected = first_in w mode (here f scope formal expected ∷ below w scope f expected)
 
@@ -54,10 +55,10 @@ constant_fault w f = first_fault w Macro [] f one_ordinary
 abbrev pub at : Place → Option Fault → Option Fault
 at outer fault = option_map (λ (f : Fault). record { rule = f.rule; place = outer ++ f.place }) fault
 
--- S10: a formal that names an object is not declared as one, or a declared name is no such formal
+-- S10: a formal that names a stobj is not declared as one, or a declared name is no such formal
 abbrev pub s10_fails : World → List ℕ → List ℕ → Bool
 s10_fails w formals stobjs =
-    list_any (λ x. is_object_name w x && not (has stobjs x)) formals || list_any (λ x. not (has formals x && is_object_name w x)) stobjs
+    list_any (λ x. is_stobj_name w x && not (has stobjs x)) formals || list_any (λ x. not (has formals x && is_stobj_name w x)) stobjs
 
 abbrev pub head_fault : World → ℕ → Member → Option Fault
 head_fault w n m = if s10_fails w m.formals m.stobjs then Some (record { rule = S10; place = n ∷ [] }) else None
@@ -97,8 +98,8 @@ optional_names fs = flat_map (λ (f : OptionalFormal). f.name ∷ option_to_list
 abbrev pub formal_names : MacroFormals → List ℕ
 formal_names f = f.required ++ (optional_names f.optional ++ (option_to_list f.rest ++ optional_names (unwrap_or f.keys [])))
 
--- S15: a formal is the name of an object
+-- S15: a formal is the name of a stobj
 abbrev pub macro_fault : World → MacroFormals → Core → Option Fault
 macro_fault w formals body =
-    if list_any (is_object_name w) (formal_names formals) then Some (record { rule = S15; place = 0 ∷ [] })
+    if list_any (is_stobj_name w) (formal_names formals) then Some (record { rule = S15; place = 0 ∷ [] })
     else at (0 ∷ 1 ∷ []) (first_fault w Macro (ordinary_scope (formal_names formals)) body one_ordinary)

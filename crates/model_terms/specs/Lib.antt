@@ -5,7 +5,7 @@ pub mod Scopes
 pub mod Outputs
 pub mod Rounds
 pub mod Sites
-pub mod Children
+pub mod Accessors
 pub mod Nested
 pub mod Rules
 pub mod Faults

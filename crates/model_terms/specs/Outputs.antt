@@ -1,4 +1,4 @@
--- The outputs by text of a core form.
+-- The outputs by text of a core form (ACL2's manual, topic SIGNATURE).
 use Rattle.std.specs.Prelude.{ℕ, List, [], ◌∷◌, Option, Some, None, nat_eq, replicate, unwrap_or, option_map, option_and_then}
 use Rattle.std.specs.Option.{option_or, option_map_or}
 use Rattle.std.specs.Map.{lookup}
@@ -23,12 +23,12 @@ signature_in d = None
 abbrev pub signature_of : World → Known → ℕ → Option Signature
 signature_of w known f = option_or (lookup (nat_eq f) known) (option_and_then signature_in (definition w f))
 
--- what stands in the object positions of a call: a variable, or another form
-abbrev pub object_actuals : List Out → Cores → List (Option ℕ)
-object_actuals [] actuals = []
-object_actuals (k ∷ ins) none = []
-object_actuals (Ordinary ∷ ins) (more f actuals) = object_actuals ins actuals
-object_actuals (Stobj x ∷ ins) (more f actuals) = variable f ∷ object_actuals ins actuals
+-- what stands in the stobj positions of a call: a variable, or another form
+abbrev pub stobj_actuals : List Out → Cores → List (Option ℕ)
+stobj_actuals [] actuals = []
+stobj_actuals (out ∷ ins) none = []
+stobj_actuals (Ordinary ∷ ins) (more f actuals) = stobj_actuals ins actuals
+stobj_actuals (Stobj x ∷ ins) (more f actuals) = variable f ∷ stobj_actuals ins actuals
 
 -- all of them, where each is there
 abbrev pub all_there : List (Option ℕ) → Option (List ℕ)
@@ -38,9 +38,9 @@ all_there (Some x ∷ vs) = option_map (λ xs. x ∷ xs) (all_there vs)
 
 -- the outputs of a function at these actuals: renamed, or its own where there is no such instance
 abbrev pub call_outs : World → Signature → Cores → List Out
-call_outs w s actuals = option_map_or (λ (i : Signature). i.outs) (option_and_then (instance_of w s) (all_there (object_actuals s.ins actuals))) s.outs
+call_outs w s actuals = option_map_or (λ (i : Signature). i.outs) (option_and_then (instance_of w s) (all_there (stobj_actuals s.ins actuals))) s.outs
 
--- an object where the part is the variable of one in scope
+-- a stobj where the part is the variable of one in scope
 abbrev pub part_kinds : Scope → Cores → List Out
 part_kinds scope none = []
 part_kinds scope (more f parts) = option_map_or (kind_of scope) (variable f) Ordinary ∷ part_kinds scope parts
@@ -54,7 +54,7 @@ outputs w known scope (Let names bound body) = outputs w known (binding w scope 
 outputs w known scope (Mv parts) = Some (part_kinds scope parts)
 outputs w known scope (MvLet names bound body) = outputs w known (binding w scope names) body
 outputs w known scope (StobjLet names bound vars producer consumer) = outputs w known (consumer_scope w scope names vars) consumer
-outputs w known scope (WithLocal object names producer body) = outputs w known (body_scope w scope object names) body
+outputs w known scope (WithLocal stobj names producer body) = outputs w known (body_scope w scope stobj names) body
 outputs w known scope (MustBeEqual logic exec) = outputs w known scope logic
 outputs w known scope (Call f actuals) = option_map (λ s. call_outs w s actuals) (signature_of w known f)
 

@@ -1,4 +1,4 @@
--- The signatures of the functions of a clique, which are found in rounds.
+-- The signatures of the functions of a clique, which are found in rounds (ACL2's manual, topic MUTUAL-RECURSION).
 use Rattle.std.specs.Prelude.{ℕ, zero, suc, List, [], ◌∷◌, ◌++◌, map, length, Option, None, nat_eq, is_some, unwrap_or, option_map, if◌then◌else◌}
 use Rattle.std.specs.List.{filter_map}
 use Rattle.std.specs.Map.{lookup}
@@ -8,7 +8,7 @@ use Rattle.model_terms.specs.Classes.{has}
 use Rattle.model_terms.specs.Scopes.{name_kind}
 use Rattle.model_terms.specs.Outputs.{Known, outputs}
 
--- a function that is being admitted, and the names declared as objects
+-- a function that is being admitted, and the names declared as stobjs
 pub record Member : Type 0 where
   pub name : ℕ
   pub formals : List ℕ
@@ -16,7 +16,7 @@ pub record Member : Type 0 where
   pub guard : Core
   pub body : Core
 
--- a formal is an object where it is declared as one and names one
+-- a formal is a stobj where it is declared as one and names one
 abbrev pub formal_kind : World → List ℕ → ℕ → Out
 formal_kind w stobjs x = if has stobjs x then name_kind w x else Ordinary
 

@@ -1,9 +1,9 @@
--- Scopes: which names stand where, and of what kind.
+-- Scopes: which names stand where, and of what kind (ACL2's manual, topic STOBJ).
 use Rattle.std.specs.Prelude.{ℕ, List, [], ◌∷◌, ◌++◌, map, Bool, not, Option, Some, None, nat_eq, is_some, unwrap_or, option_to_list, if◌then◌else◌}
 use Rattle.std.specs.Option.{option_or}
 use Rattle.std.specs.List.{filter}
 use Rattle.model_terms.specs.Worlds.{World, Out, Ordinary, Stobj, Entry, Scope}
-use Rattle.model_terms.specs.Classes.{is_object_name, has}
+use Rattle.model_terms.specs.Classes.{is_stobj_name, has}
 
 -- the kind of a name that stands in scope
 abbrev pub kind_in : Scope → ℕ → Option Out
@@ -19,7 +19,7 @@ kind_of scope x = unwrap_or (kind_in scope x) Ordinary
 
 -- the kind of a name that is bound
 abbrev pub name_kind : World → ℕ → Out
-name_kind w x = if is_object_name w x then Stobj x else Ordinary
+name_kind w x = if is_stobj_name w x then Stobj x else Ordinary
 
 abbrev pub name_kinds : World → List ℕ → List Out
 name_kinds w names = map (name_kind w) names
@@ -35,7 +35,7 @@ abbrev pub without : List ℕ → Scope → Scope
 without names scope = filter (λ (e : Entry). not (has names e.name)) scope
 
 abbrev pub ordinary_names : World → List ℕ → List ℕ
-ordinary_names w names = filter (λ x. not (is_object_name w x)) names
+ordinary_names w names = filter (λ x. not (is_stobj_name w x)) names
 
 -- ---- of a `STOBJ-LET`
 
@@ -50,11 +50,11 @@ consumer_scope w scope children vars = binding w (without children scope) (ordin
 -- ---- of a `WITH-LOCAL-STOBJ`
 
 abbrev pub local_scope : World → Scope → ℕ → Scope
-local_scope w scope object = binding w scope (object ∷ [])
+local_scope w scope stobj = binding w scope (stobj ∷ [])
 
 abbrev pub other_names : ℕ → List ℕ → List ℕ
-other_names object names = filter (λ x. not (nat_eq x object)) names
+other_names stobj names = filter (λ x. not (nat_eq x stobj)) names
 
--- the outer names without that of the object, and the other names
+-- the outer names without that of the stobj, and the other names
 abbrev pub body_scope : World → Scope → ℕ → List ℕ → Scope
-body_scope w scope object names = binding w (without (object ∷ []) scope) (other_names object names)
+body_scope w scope stobj names = binding w (without (stobj ∷ []) scope) (other_names stobj names)

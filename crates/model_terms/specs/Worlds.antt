@@ -1,4 +1,4 @@
--- Worlds: the definitions that stand, by the numbers of their names.
+-- Worlds: the definitions that stand, by the numbers of their names (ACL2's manual, topic WORLD).
 use Rattle.std.specs.Prelude.{ℕ, List, map, Bool, Option, nat_eq}
 use Rattle.std.specs.List.{find, IsDistinct}
 use Rattle.acl_base.specs.declared.layout.Test.{Test}
@@ -8,7 +8,7 @@ use Rattle.model_terms.specs.declared.role.Role.{Role}
 use Rattle.model_terms.specs.declared.role.AbstractRole.{AbstractRole}
 use Rattle.model_terms.specs.Cores.{Core}
 
--- an output, or the kind of a name: ordinary, or the object of this name
+-- an output, or the kind of a name: ordinary, or the stobj of this name
 pub data Out : Type 0 where
   Ordinary : Out
   Stobj : ℕ → Out
@@ -26,15 +26,15 @@ pub record Entry : Type 0 where
 abbrev pub Scope : Type 0
 Scope = List Entry
 
--- ---- objects
+-- ---- stobjs
 
--- a field: one element, an array, a hash field, an object, an array of objects
+-- a field: one element, an array, a hash field, a stobj, an array of stobjs
 pub data Shape : Type 0 where
   Scalar : Object ℕ → Object ℕ → Shape  -- its type as it was written, initial value
   Array : Object ℕ → Object ℕ → ℕ → Bool → Shape  -- the type and initial value of an element, first length, whether it may be resized
   Hash : Test → Shape
-  Child : ℕ → Shape  -- its object
-  Children : ℕ → ℕ → Shape  -- the object of each, length
+  Child : ℕ → Shape  -- its stobj
+  Children : ℕ → ℕ → Shape  -- the stobj of each, length
 
 pub record Field : Type 0 where
   pub name : ℕ
@@ -48,7 +48,7 @@ pub record Descriptor : Type 0 where
   pub fields : List Field
   pub congruent_to : Option ℕ
 
--- ---- abstract objects
+-- ---- abstract stobjs
 
 pub record AbstractFunction : Type 0 where
   pub name : ℕ
@@ -85,18 +85,18 @@ pub record Function : Type 0 where
   pub body : Core
   pub executable : Bool
 
--- a function that a concrete object comes with, of the field of this number where it is one of a field
+-- a function that a concrete stobj comes with, of the field of this number where it is one of a field
 pub record GeneratedFunction : Type 0 where
   pub name : ℕ
-  pub object : ℕ
+  pub stobj : ℕ
   pub field : Option ℕ
   pub role : Role
   pub signature : Signature
 
--- a function of an abstract object
+-- a function of an abstract stobj
 pub record FunctionOfAbstract : Type 0 where
   pub name : ℕ
-  pub object : ℕ
+  pub stobj : ℕ
   pub role : AbstractRole
   pub formals : List ℕ
   pub signature : Signature
@@ -109,24 +109,24 @@ pub data Definition : Type 0 where
   Defined : Function → Definition
   Macro : ℕ → MacroFormals → Core → Definition  -- name, formals, body
   Constant : ℕ → Object ℕ → Definition  -- name, value
-  Concrete : Descriptor → ℕ → Definition  -- an object, and the first object of its congruence class
+  Concrete : Descriptor → ℕ → Definition  -- a stobj, and the first stobj of its congruence class
   Generated : GeneratedFunction → Definition
   Abstract : AbstractDescriptor → Definition
   OfAbstract : FunctionOfAbstract → Definition
   Named : ℕ → List ℕ → Definition  -- a function that is being admitted: name, formals
   Signed : ℕ → List ℕ → Signature → Bool → Definition  -- the same with its signature, and whether it is executable
 
-abbrev pub name_of : Definition → ℕ
-name_of (Primitive name row) = name
-name_of (Defined f) = f.name
-name_of (Macro name formals body) = name
-name_of (Constant name value) = name
-name_of (Concrete d class) = d.name
-name_of (Generated f) = f.name
-name_of (Abstract d) = d.name
-name_of (OfAbstract f) = f.name
-name_of (Named name formals) = name
-name_of (Signed name formals signature executable) = name
+abbrev pub definition_name : Definition → ℕ
+definition_name (Primitive name row) = name
+definition_name (Defined f) = f.name
+definition_name (Macro name formals body) = name
+definition_name (Constant name value) = name
+definition_name (Concrete d class) = d.name
+definition_name (Generated f) = f.name
+definition_name (Abstract d) = d.name
+definition_name (OfAbstract f) = f.name
+definition_name (Named name formals) = name
+definition_name (Signed name formals signature executable) = name
 
 -- definitions, in the order in which they were admitted
 abbrev pub World : Type 0
@@ -134,8 +134,8 @@ World = List Definition
 
 -- no two definitions have one name
 abbrev pub HasDistinctNames : World → Type 0
-HasDistinctNames w = IsDistinct nat_eq (map name_of w)
+HasDistinctNames w = IsDistinct nat_eq (map definition_name w)
 
 -- the definition of a name
 abbrev pub definition : World → ℕ → Option Definition
-definition w x = find (λ d. nat_eq x (name_of d)) w
+definition w x = find (λ d. nat_eq x (definition_name d)) w

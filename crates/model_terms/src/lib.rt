@@ -1,4 +1,4 @@
-//! Core forms, worlds, and the rules that keep objects single-threaded: the definitions.
+//! Core forms, worlds, and the rules that keep stobjs single-threaded: the definitions.
 #![tactic(auto)]
 
 mod role;

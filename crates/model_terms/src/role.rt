@@ -1,6 +1,6 @@
-//! What the functions of an object do.
+//! What the functions of a stobj do.
 
-/// What a function that a concrete object comes with does.
+/// What a function that a concrete stobj comes with does.
 #[derive(Clone, Copy, Debug, PartialEq, Eq)]
 pub enum Role {
     Recognizer,
@@ -20,7 +20,7 @@ pub enum Role {
     HashClear,
 }
 
-/// What a function of an abstract object does.
+/// What a function of an abstract stobj does.
 #[derive(Clone, Copy, Debug, PartialEq, Eq)]
 pub enum AbstractRole {
     Recognizer,

@@ -4,7 +4,7 @@ use Rattle.std.specs.Prelude.{Option, Some, None, Bool, true, false, nat_eq, map
 use Rattle.std.specs.List.{AllByRecursion}
 use Rattle.std.proofs.lemmas.Map.Keys.{IsDistinct-head, IsDistinct-tail}
 use Rattle.std.proofs.lemmas.Bool.{eqb-true, eq-eqb}
-use Rattle.model_terms.specs.Worlds.{World, HasDistinctNames, Definition, Primitive, Concrete, Abstract, Descriptor, AbstractDescriptor, name_of, definition}
+use Rattle.model_terms.specs.Worlds.{World, HasDistinctNames, Definition, Primitive, Concrete, Abstract, Descriptor, AbstractDescriptor, definition_name, definition}
 use Rattle.model_terms.specs.Classes.{class_in, class_of, same_class}
 use Rattle.model_terms_laws.specs.Laws.{FindsByName, IsEquivalence, HasConcreteClasses, IsAlone}
 
@@ -49,7 +49,7 @@ is_equivalence =
       of_objects = λ w x y h. class_there (class_of w x) (class_of w y) h;
     }
 
--- ---- abstract objects
+-- ---- abstract stobjs
 
 some_same : (d e : Definition) → Some d ≡ Some e → d ≡ e
 some_same d e h = cc
@@ -57,12 +57,12 @@ some_same d e h = cc
 none_some : (e : Definition) → ◌≡◌ {A = Option Definition} None (Some e) → ⊥
 none_some e h = cc
 
-pub found_name : (w : World) (x : ℕ) (e : Definition) → definition w x ≡ Some e → x ≡ name_of e
+pub found_name : (w : World) (x : ℕ) (e : Definition) → definition w x ≡ Some e → x ≡ definition_name e
 found_name [] x e h = absurd (none_some e h)
-found_name (d ∷ w) x e h = go (nat_eq x (name_of d)) refl (found_name w x e)
+found_name (d ∷ w) x e h = go (nat_eq x (definition_name d)) refl (found_name w x e)
   where
-    go : (b : Bool) → nat_eq x (name_of d) ≡ b → (definition w x ≡ Some e → x ≡ name_of e) → x ≡ name_of e
-    go true t later = let same : d ≡ e = some_same d e (rw t at h) in eqb-true x (name_of d) t ∙ ap name_of same
+    go : (b : Bool) → nat_eq x (definition_name d) ≡ b → (definition w x ≡ Some e → x ≡ definition_name e) → x ≡ definition_name e
+    go true t later = let same : d ≡ e = some_same d e (rw t at h) in eqb-true x (definition_name d) t ∙ ap definition_name same
     go false t later = later (rw t at h)
 
 not_both : (d : Descriptor) (c : ℕ) (e : AbstractDescriptor) → ◌≡◌ {A = Option Definition} (Some (Abstract e)) (Some (Concrete d c)) → ⊥
@@ -93,15 +93,15 @@ is_alone =
 
 -- ---- worlds
 
-differs : (x : ℕ) (before after : World) (d : Definition) → AllByRecursion (λ y. nat_eq x y ≡ false) (map name_of (before ++ d ∷ after)) → nat_eq x (name_of d) ≡ false
+differs : (x : ℕ) (before after : World) (d : Definition) → AllByRecursion (λ y. nat_eq x y ≡ false) (map definition_name (before ++ d ∷ after)) → nat_eq x (definition_name d) ≡ false
 differs x [] after d all = all.0
 differs x (e ∷ before) after d all = differs x before after d all.1
 
-found : (before after : World) (d : Definition) → HasDistinctNames (before ++ d ∷ after) → definition (before ++ d ∷ after) (name_of d) ≡ Some d
-found [] after d distinct = rw (eq-eqb (name_of d) (name_of d) refl) refl
+found : (before after : World) (d : Definition) → HasDistinctNames (before ++ d ∷ after) → definition (before ++ d ∷ after) (definition_name d) ≡ Some d
+found [] after d distinct = rw (eq-eqb (definition_name d) (definition_name d) refl) refl
 found (e ∷ before) after d distinct =
-    let apart : nat_eq (name_of d) (name_of e) ≡ false = eq_swap (name_of d) (name_of e) ∙ differs (name_of e) before after d (IsDistinct-head nat_eq (name_of e) (map name_of (before ++ d ∷ after)) distinct) in
-    rw apart (found before after d (IsDistinct-tail nat_eq (name_of e) (map name_of (before ++ d ∷ after)) distinct))
+    let apart : nat_eq (definition_name d) (definition_name e) ≡ false = eq_swap (definition_name d) (definition_name e) ∙ differs (definition_name e) before after d (IsDistinct-head nat_eq (definition_name e) (map definition_name (before ++ d ∷ after)) distinct) in
+    rw apart (found before after d (IsDistinct-tail nat_eq (definition_name e) (map definition_name (before ++ d ∷ after)) distinct))
 
 pub finds_by_name : FindsByName
 finds_by_name = record { named = found_name; found = found }

@@ -146,10 +146,10 @@ mutual
       let both : Accepted w mode (producer_scope w scope (parent_in bound) names) producer None (name_kinds w vars) × Hold w mode (child w 1 (consumer_scope w scope names vars) consumer expected)
       = first_child w mode 0 (producer_scope w scope (parent_in bound) names) producer (name_kinds w vars) (child w 1 (consumer_scope w scope names vars) consumer expected) all.1 in
       gives w mode (consumer_scope w scope names vars) consumer None expected n (last_child w mode 1 (consumer_scope w scope names vars) consumer expected both.1)
-  gives w mode scope (WithLocal object names producer body) formal expected n all =
-      let both : Accepted w mode (local_scope w scope object) producer None (name_kinds w names) × Hold w mode (child w 1 (body_scope w scope object names) body expected)
-      = first_child w mode 0 (local_scope w scope object) producer (name_kinds w names) (child w 1 (body_scope w scope object names) body expected) all.1 in
-      gives w mode (body_scope w scope object names) body None expected n (last_child w mode 1 (body_scope w scope object names) body expected both.1)
+  gives w mode scope (WithLocal stobj names producer body) formal expected n all =
+      let both : Accepted w mode (local_scope w scope stobj) producer None (name_kinds w names) × Hold w mode (child w 1 (body_scope w scope stobj names) body expected)
+      = first_child w mode 0 (local_scope w scope stobj) producer (name_kinds w names) (child w 1 (body_scope w scope stobj names) body expected) all.1 in
+      gives w mode (body_scope w scope stobj names) body None expected n (last_child w mode 1 (body_scope w scope stobj names) body expected both.1)
   gives w mode scope (MustBeEqual logic exec) formal expected n all =
       let both : Accepted w mode scope logic None expected × Hold w mode (child w 1 scope exec expected) = first_child w mode 0 scope logic expected (child w 1 scope exec expected) all.1 in
       gives w mode scope logic None expected n both.0

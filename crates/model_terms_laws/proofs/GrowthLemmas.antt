@@ -1,14 +1,14 @@
--- The outputs of a form rest on the definitions of its names alone, and on those of the objects in signatures.
+-- The outputs of a form rest on the definitions of its names alone, and on those of the stobjs in signatures.
 use Rattle.std.proofs.Common.{◌≡◌, ℕ, List, [], ◌∷◌, ◌++◌, refl, ap, ◌∙◌}
 use Rattle.std.specs.Prelude.{Option, Some, None, Bool, true, false, not, nat_eq, map, is_some, option_map, option_and_then}
 use Rattle.std.specs.Option.{option_or, option_map_or}
 use Rattle.std.specs.List.{AllByRecursion, filter}
 use Rattle.std.proofs.lemmas.List.Folds.{find-append}
 use Rattle.model_terms.specs.Cores.{Core, Cores, none, more, Var, Const, If, Let, Mv, MvLet, StobjLet, WithLocal, MustBeEqual, Call, variable}
-use Rattle.model_terms.specs.Worlds.{World, Definition, Out, Ordinary, Stobj, Signature, Scope, name_of, definition}
-use Rattle.model_terms.specs.Classes.{class_in, is_object_name, stobjs, all_congruent, instance_of}
+use Rattle.model_terms.specs.Worlds.{World, Definition, Out, Ordinary, Stobj, Signature, Scope, definition_name, definition}
+use Rattle.model_terms.specs.Classes.{class_in, is_stobj_name, stobjs, all_congruent, instance_of}
 use Rattle.model_terms.specs.Scopes.{entry, binding, without, ordinary_names, consumer_scope, other_names, body_scope}
-use Rattle.model_terms.specs.Outputs.{Known, signature_of, object_actuals, all_there, call_outs, outputs}
+use Rattle.model_terms.specs.Outputs.{Known, signature_of, stobj_actuals, all_there, call_outs, outputs}
 use Rattle.model_terms_laws.specs.Names.{Names, NamesOfAll}
 use Rattle.model_terms_laws.specs.Laws.{KeepsOutputs}
 
@@ -18,7 +18,7 @@ Same v w x = definition v x ≡ definition w x
 
 -- ---- scopes
 
-object_same : (v w : World) (x : ℕ) → Same v w x → is_object_name v x ≡ is_object_name w x
+object_same : (v w : World) (x : ℕ) → Same v w x → is_stobj_name v x ≡ is_stobj_name w x
 unfolding Same
 object_same v w x e = rw e refl
 
@@ -48,11 +48,11 @@ ordinary_same v w (x ∷ xs) all = rw (object_same v w x all.0, ordinary_same v 
 consumer_same : (v w : World) (scope : Scope) (children vars : List ℕ) → AllByRecursion (Same v w) vars → consumer_scope v scope children vars ≡ consumer_scope w scope children vars
 consumer_same v w scope children vars all =
     ap (binding v (without children scope)) (ordinary_same v w vars all)
-    ∙ bound_same v w (without children scope) (ordinary_names w vars) (all_kept (Same v w) (λ x. not (is_object_name w x)) vars all)
+    ∙ bound_same v w (without children scope) (ordinary_names w vars) (all_kept (Same v w) (λ x. not (is_stobj_name w x)) vars all)
 
-body_same : (v w : World) (scope : Scope) (object : ℕ) (names : List ℕ) → AllByRecursion (Same v w) names → body_scope v scope object names ≡ body_scope w scope object names
-body_same v w scope object names all =
-    bound_same v w (without (object ∷ []) scope) (other_names object names) (all_kept (Same v w) (λ x. not (nat_eq x object)) names all)
+body_same : (v w : World) (scope : Scope) (stobj : ℕ) (names : List ℕ) → AllByRecursion (Same v w) names → body_scope v scope stobj names ≡ body_scope w scope stobj names
+body_same v w scope stobj names all =
+    bound_same v w (without (stobj ∷ []) scope) (other_names stobj names) (all_kept (Same v w) (λ x. not (nat_eq x stobj)) names all)
 
 -- ---- calls
 
@@ -69,12 +69,12 @@ OfEach : (ℕ → Type 0) → List (Option ℕ) → Type 0
 OfEach P [] = Unit {0}
 OfEach P (v ∷ vs) = OfVariable P v × OfEach P vs
 
-of_actuals : (P : ℕ → Type 0) (ins : List Out) (fs : Cores) → NamesOfAll P fs → OfEach P (object_actuals ins fs)
+of_actuals : (P : ℕ → Type 0) (ins : List Out) (fs : Cores) → NamesOfAll P fs → OfEach P (stobj_actuals ins fs)
 unfolding NamesOfAll OfEach
 of_actuals P [] fs all = tt
 of_actuals P (k ∷ ins) none all = of_none P k ins
   where
-    of_none : (P : ℕ → Type 0) (k : Out) (ins : List Out) → OfEach P (object_actuals (k ∷ ins) none)
+    of_none : (P : ℕ → Type 0) (k : Out) (ins : List Out) → OfEach P (stobj_actuals (k ∷ ins) none)
     of_none P Ordinary ins = tt
     of_none P (Stobj x) ins = tt
 of_actuals P (Ordinary ∷ ins) (more f fs) all = of_actuals P ins fs all.1
@@ -112,7 +112,7 @@ found_same v w s None fs acts = refl
 found_same v w s (Some xs) fs acts = rw (instance_same v w s xs fs acts) refl
 
 call_same : (v w : World) (s : Signature) (actuals : Cores) → AllByRecursion (Same v w) (stobjs s.ins) → NamesOfAll (Same v w) actuals → call_outs v s actuals ≡ call_outs w s actuals
-call_same v w s actuals fs all = found_same v w s (all_there (object_actuals s.ins actuals)) fs (of_all (Same v w) (object_actuals s.ins actuals) (of_actuals (Same v w) s.ins actuals all))
+call_same v w s actuals fs all = found_same v w s (all_there (stobj_actuals s.ins actuals)) fs (of_all (Same v w) (stobj_actuals s.ins actuals) (of_actuals (Same v w) s.ins actuals all))
 
 signature_same : (v w : World) (known : Known) (f : ℕ) → Same v w f → signature_of v known f ≡ signature_of w known f
 unfolding Same
@@ -139,8 +139,8 @@ outputs_same v w known scope (MvLet xs bound body) fs names =
     ap (λ s. outputs v known s body) (bound_same v w scope xs names.0) ∙ outputs_same v w known (binding w scope xs) body fs names.2
 outputs_same v w known scope (StobjLet xs bound vars producer consumer) fs names =
     ap (λ s. outputs v known s consumer) (consumer_same v w scope xs vars names.2) ∙ outputs_same v w known (consumer_scope w scope xs vars) consumer fs names.4
-outputs_same v w known scope (WithLocal object xs producer body) fs names =
-    ap (λ s. outputs v known s body) (body_same v w scope object xs names.1) ∙ outputs_same v w known (body_scope w scope object xs) body fs names.3
+outputs_same v w known scope (WithLocal stobj xs producer body) fs names =
+    ap (λ s. outputs v known s body) (body_same v w scope stobj xs names.1) ∙ outputs_same v w known (body_scope w scope stobj xs) body fs names.3
 outputs_same v w known scope (MustBeEqual logic exec) fs names = outputs_same v w known scope logic fs names.0
 outputs_same v w known scope (Call f actuals) fs names =
     ap (option_map (λ s. call_outs v s actuals)) (signature_same v w known f names.0)
@@ -154,17 +154,17 @@ or_none (Some d) = refl
 
 new_same : (w new : World) (x : ℕ) → definition new x ≡ None → Same (w ++ new) w x
 unfolding Same
-new_same w new x e = find-append (λ d. nat_eq x (name_of d)) w new ∙ (ap (option_or (definition w x)) e ∙ or_none (definition w x))
+new_same w new x e = find-append (λ d. nat_eq x (definition_name d)) w new ∙ (ap (option_or (definition w x)) e ∙ or_none (definition w x))
 
 or_some : (o p : Option Definition) → is_some (option_and_then class_in o) ≡ true → option_or o p ≡ o
 or_some None p h = cc
 or_some (Some d) p h = refl
 
-old_same : (w new : World) (x : ℕ) → is_object_name w x ≡ true → Same (w ++ new) w x
+old_same : (w new : World) (x : ℕ) → is_stobj_name w x ≡ true → Same (w ++ new) w x
 unfolding Same
-old_same w new x h = find-append (λ d. nat_eq x (name_of d)) w new ∙ or_some (definition w x) (definition new x) h
+old_same w new x h = find-append (λ d. nat_eq x (definition_name d)) w new ∙ or_some (definition w x) (definition new x) h
 
-all_old : (w new : World) (xs : List ℕ) → AllByRecursion (λ x. is_object_name w x ≡ true) xs → AllByRecursion (Same (w ++ new) w) xs
+all_old : (w new : World) (xs : List ℕ) → AllByRecursion (λ x. is_stobj_name w x ≡ true) xs → AllByRecursion (Same (w ++ new) w) xs
 all_old w new [] all = tt
 all_old w new (x ∷ xs) all = (old_same w new x all.0, all_old w new xs all.1)
 
@@ -184,7 +184,7 @@ mutual
   names_same w new (MvLet xs bound body) n = (all_new w new xs n.0, names_same w new bound n.1, names_same w new body n.2)
   names_same w new (StobjLet xs bound vars producer consumer) n =
       (all_new w new xs n.0, all_names_same w new bound n.1, all_new w new vars n.2, names_same w new producer n.3, names_same w new consumer n.4)
-  names_same w new (WithLocal object xs producer body) n = (new_same w new object n.0, all_new w new xs n.1, names_same w new producer n.2, names_same w new body n.3)
+  names_same w new (WithLocal stobj xs producer body) n = (new_same w new stobj n.0, all_new w new xs n.1, names_same w new producer n.2, names_same w new body n.3)
   names_same w new (MustBeEqual logic exec) n = (names_same w new logic n.0, names_same w new exec n.1)
   names_same w new (Call f actuals) n = (new_same w new f n.0, all_names_same w new actuals n.1)
 

@@ -4,7 +4,7 @@ use Rattle.std.specs.Prelude.{Option, Some, None, Bool, true, false, ◌&&◌, �
 use Rattle.std.specs.List.{zip, AllByRecursion}
 use Rattle.std.proofs.lemmas.Bool.{eqb-true, eq-eqb}
 use Rattle.model_terms.specs.Worlds.{World, Out, Ordinary, Stobj, Signature}
-use Rattle.model_terms.specs.Classes.{is_object_name, congruent, stobjs, has, repeats, all_congruent, actual_of, renamed_out, renamed, instance_of}
+use Rattle.model_terms.specs.Classes.{is_stobj_name, congruent, stobjs, has, repeats, all_congruent, actual_of, renamed_out, renamed, instance_of}
 use Rattle.model_terms_laws.specs.Laws.{IsInstance}
 use Rattle.model_terms_laws.proofs.ClassLemmas.{is_equivalence, eq_swap}
 
@@ -79,7 +79,7 @@ outs_are w s i actuals e =
 
 -- ---- the instance at the formals themselves
 
-congruent_to_themselves : (w : World) (xs : List ℕ) → AllByRecursion (λ x. is_object_name w x ≡ true) xs → all_congruent w xs xs ≡ true
+congruent_to_themselves : (w : World) (xs : List ℕ) → AllByRecursion (λ x. is_stobj_name w x ≡ true) xs → all_congruent w xs xs ≡ true
 congruent_to_themselves w [] all = refl
 congruent_to_themselves w (x ∷ xs) all = rw (is_equivalence.reflexive w x all.0, congruent_to_themselves w xs all.1) refl
 
@@ -96,7 +96,7 @@ kinds_stay xs [] = refl
 kinds_stay xs (Ordinary ∷ kinds) = ap (λ ks. Ordinary ∷ ks) (kinds_stay xs kinds)
 kinds_stay xs (Stobj x ∷ kinds) = rw (stays xs x, kinds_stay xs kinds) refl
 
-itself_is : (w : World) (s : Signature) → AllByRecursion (λ x. is_object_name w x ≡ true) (stobjs s.ins) → repeats (stobjs s.ins) ≡ false → instance_of w s (stobjs s.ins) ≡ Some s
+itself_is : (w : World) (s : Signature) → AllByRecursion (λ x. is_stobj_name w x ≡ true) (stobjs s.ins) → repeats (stobjs s.ins) ≡ false → instance_of w s (stobjs s.ins) ≡ Some s
 itself_is w s all r = rw (congruent_to_themselves w (stobjs s.ins) all, r, kinds_stay (stobjs s.ins) s.ins, kinds_stay (stobjs s.ins) s.outs) refl
 
 pub is_instance : IsInstance

@@ -7,7 +7,7 @@ use Rattle.model_terms.specs.declared.rule.Mode.{Mode}
 use Rattle.model_terms.specs.Cores.{Core, Cores, none, more, Var, Const, If, Let, Mv, MvLet, StobjLet, WithLocal, MustBeEqual, Call, Place, count}
 use Rattle.model_terms.specs.Worlds.{World, Out, Scope}
 use Rattle.model_terms.specs.Scopes.{name_kinds, binding, producer_scope, consumer_scope, local_scope, body_scope}
-use Rattle.model_terms.specs.Sites.{Placed, down, here, child, below, below_parts, below_actuals, one_ordinary, first_kind, other_kinds, formal_object, actual_expected, parent_in}
+use Rattle.model_terms.specs.Sites.{Placed, down, here, child, below, below_parts, below_actuals, one_ordinary, first_kind, other_kinds, formal_stobj, actual_expected, parent_in}
 use Rattle.model_terms.specs.Faults.{Fault, first_rule, fault_at, first_in, first_at}
 use Rattle.model_terms_laws.specs.Parts.{fault_down, own_fault, child_fault, parts_fault, actuals_fault, faults_below, GoesDown}
 
@@ -66,9 +66,9 @@ below_is w mode scope (MvLet names bound body) expected =
 below_is w mode scope (StobjLet names bound vars producer consumer) expected =
     child_then w mode 0 (producer_scope w scope (parent_in bound) names) producer None (name_kinds w vars) (child 1 consumer (consumer_scope w scope names vars) expected (below w (consumer_scope w scope names vars) consumer expected))
     ∙ ap (option_or (child_fault w mode 0 (producer_scope w scope (parent_in bound) names) producer (name_kinds w vars))) (last_child w mode 1 (consumer_scope w scope names vars) consumer expected)
-below_is w mode scope (WithLocal object names producer body) expected =
-    child_then w mode 0 (local_scope w scope object) producer None (name_kinds w names) (child 1 body (body_scope w scope object names) expected (below w (body_scope w scope object names) body expected))
-    ∙ ap (option_or (child_fault w mode 0 (local_scope w scope object) producer (name_kinds w names))) (last_child w mode 1 (body_scope w scope object names) body expected)
+below_is w mode scope (WithLocal stobj names producer body) expected =
+    child_then w mode 0 (local_scope w scope stobj) producer None (name_kinds w names) (child 1 body (body_scope w scope stobj names) expected (below w (body_scope w scope stobj names) body expected))
+    ∙ ap (option_or (child_fault w mode 0 (local_scope w scope stobj) producer (name_kinds w names))) (last_child w mode 1 (body_scope w scope stobj names) body expected)
 below_is w mode scope (MustBeEqual logic exec) expected =
     child_then w mode 0 scope logic None expected (child 1 exec scope expected (below w scope exec expected))
     ∙ ap (option_or (child_fault w mode 0 scope logic expected)) (last_child w mode 1 scope exec expected)
@@ -94,10 +94,10 @@ no_actual w mode scope ins k = refl
 
 first_actual : (w : World) (mode : Mode) (scope : Scope) (ins : List Out) (k : ℕ) (f : Core) (fs : Cores)
     → actuals_fault w mode scope ins k (more f fs)
-    ≡ option_or (fault_down k (first_at w mode scope f (formal_object (first_kind ins)) (actual_expected (first_kind ins) f))) (actuals_fault w mode scope (other_kinds ins) (k + 1) fs)
+    ≡ option_or (fault_down k (first_at w mode scope f (formal_stobj (first_kind ins)) (actual_expected (first_kind ins) f))) (actuals_fault w mode scope (other_kinds ins) (k + 1) fs)
 unfolding actuals_fault below
 first_actual w mode scope ins k f fs =
-    child_then w mode k scope f (formal_object (first_kind ins)) (actual_expected (first_kind ins) f) (below_actuals w scope (other_kinds ins) (k + 1) fs)
+    child_then w mode k scope f (formal_stobj (first_kind ins)) (actual_expected (first_kind ins) f) (below_actuals w scope (other_kinds ins) (k + 1) fs)
 
 pub goes_down : GoesDown
 goes_down = record { at_form = at_form; no_part = no_part; first_part = first_part; no_actual = no_actual; first_actual = first_actual }

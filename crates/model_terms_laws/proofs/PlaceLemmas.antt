@@ -11,7 +11,7 @@ use Rattle.std.proofs.lemmas.List.{append-nil}
 use Rattle.model_terms.specs.Cores.{Core, Cores, none, more, Var, Const, If, Let, Mv, MvLet, StobjLet, WithLocal, MustBeEqual, Call, Place, variable, count, and_last, children, child_at, form_at}
 use Rattle.model_terms.specs.Worlds.{World, Out, Scope}
 use Rattle.model_terms.specs.Scopes.{name_kinds, binding, producer_scope, consumer_scope, local_scope, body_scope}
-use Rattle.model_terms.specs.Sites.{Placed, down, here, below, below_parts, below_actuals, one_ordinary, first_kind, other_kinds, ins_of, formal_object, actual_kind, parent_in, sites}
+use Rattle.model_terms.specs.Sites.{Placed, down, here, below, below_parts, below_actuals, one_ordinary, first_kind, other_kinds, ins_of, formal_stobj, actual_kind, parent_in, sites}
 use Rattle.model_terms_laws.specs.Laws.{place_cmp, ArePlaces}
 
 -- ---- induction over a form by its children
@@ -36,7 +36,7 @@ mutual
   by_children P step (Mv parts) = step (Mv parts) (all_by_children P step parts)
   by_children P step (MvLet names bound body) = step (MvLet names bound body) (by_children P step bound, (by_children P step body, tt))
   by_children P step (StobjLet names bound vars producer consumer) = step (StobjLet names bound vars producer consumer) (by_children P step producer, (by_children P step consumer, tt))
-  by_children P step (WithLocal object names producer body) = step (WithLocal object names producer body) (by_children P step producer, (by_children P step body, tt))
+  by_children P step (WithLocal stobj names producer body) = step (WithLocal stobj names producer body) (by_children P step producer, (by_children P step body, tt))
   by_children P step (MustBeEqual logic exec) = step (MustBeEqual logic exec) (by_children P step logic, (by_children P step exec, tt))
   by_children P step (Call f actuals) = step (Call f actuals) (all_by_children P step actuals)
 
@@ -65,7 +65,7 @@ actuals_cover : (w : World) (scope : Scope) (ins : List Out) (k : ℕ) (fs : Cor
 unfolding below
 actuals_cover w scope ins k none = no_more k
 actuals_cover w scope ins k (more f fs) =
-    and_more k f fs scope (formal_object (first_kind ins)) (actual_kind (first_kind ins) (variable f) ∷ []) _ (actuals_cover w scope (other_kinds ins) (k + 1) fs)
+    and_more k f fs scope (formal_stobj (first_kind ins)) (actual_kind (first_kind ins) (variable f) ∷ []) _ (actuals_cover w scope (other_kinds ins) (k + 1) fs)
 
 bound_cover : (w : World) (scope inner : Scope) (kinds : List Out) (k j : ℕ) (fs : Cores) (body : Core) (expected : List Out) → k + count fs ≡ j
     → Cover w (and_last fs body) k (below_parts w scope kinds k fs ++ map (down j) (here body inner None expected ∷ below w inner body expected))
@@ -89,8 +89,8 @@ cover w scope (Mv parts) expected = parts_cover w scope expected 0 parts
 cover w scope (MvLet names bound body) expected = and_more 0 bound _ scope None (name_kinds w names) _ (last_one w 1 body (binding w scope names) expected)
 cover w scope (StobjLet names bound vars producer consumer) expected =
     and_more 0 producer _ (producer_scope w scope (parent_in bound) names) None (name_kinds w vars) _ (last_one w 1 consumer (consumer_scope w scope names vars) expected)
-cover w scope (WithLocal object names producer body) expected =
-    and_more 0 producer _ (local_scope w scope object) None (name_kinds w names) _ (last_one w 1 body (body_scope w scope object names) expected)
+cover w scope (WithLocal stobj names producer body) expected =
+    and_more 0 producer _ (local_scope w scope stobj) None (name_kinds w names) _ (last_one w 1 body (body_scope w scope stobj names) expected)
 cover w scope (MustBeEqual logic exec) expected = and_more 0 logic _ scope None expected _ (last_one w 1 exec scope expected)
 cover w scope (Call f actuals) expected = actuals_cover w scope (ins_of w f) 0 actuals
 

@@ -10,8 +10,8 @@ use Rattle.model_terms.specs.declared.rule.Rule.TheVariants.{S1, S2, S3, S4, S5,
 use Rattle.model_terms.specs.declared.rule.Mode.{Mode}
 use Rattle.model_terms.specs.declared.rule.Mode.TheVariants.{Logic}
 use Rattle.model_terms.specs.Cores.{Core, Place, form_at}
-use Rattle.model_terms.specs.Worlds.{World, Definition, Concrete, Abstract, Descriptor, AbstractDescriptor, Out, Signature, Scope, name_of, HasDistinctNames, definition}
-use Rattle.model_terms.specs.Classes.{is_object_name, congruent, stobjs, repeats, all_congruent, renamed_out, instance_of}
+use Rattle.model_terms.specs.Worlds.{World, Definition, Concrete, Abstract, Descriptor, AbstractDescriptor, Out, Signature, Scope, definition_name, HasDistinctNames, definition}
+use Rattle.model_terms.specs.Classes.{is_stobj_name, congruent, stobjs, repeats, all_congruent, renamed_out, instance_of}
 use Rattle.model_terms.specs.Outputs.{Known, signature_of, outputs, outs}
 use Rattle.model_terms.specs.Rounds.{Member, round, known_at_last}
 use Rattle.model_terms.specs.Sites.{Placed, sites}
@@ -23,35 +23,35 @@ use Rattle.model_terms_laws.specs.Names.{Names}
 
 -- a definition is found by its name alone
 pub record FindsByName : Type 0 where
-  pub named : (w : World) (x : ℕ) (d : Definition) → definition w x ≡ Some d → x ≡ name_of d
-  pub found : (before after : World) (d : Definition) → HasDistinctNames (before ++ d ∷ after) → definition (before ++ d ∷ after) (name_of d) ≡ Some d
+  pub named : (w : World) (x : ℕ) (d : Definition) → definition w x ≡ Some d → x ≡ definition_name d
+  pub found : (before after : World) (d : Definition) → HasDistinctNames (before ++ d ∷ after) → definition (before ++ d ∷ after) (definition_name d) ≡ Some d
 
 -- ---- congruence
 
--- congruence is an equivalence on the names of objects, and holds of no other name
+-- congruence is an equivalence on the names of stobjs, and holds of no other name
 pub record IsEquivalence : Type 0 where
-  pub reflexive : (w : World) (x : ℕ) → is_object_name w x ≡ true → congruent w x x ≡ true
+  pub reflexive : (w : World) (x : ℕ) → is_stobj_name w x ≡ true → congruent w x x ≡ true
   pub symmetric : (w : World) (x y : ℕ) → congruent w x y ≡ congruent w y x
   pub transitive : (w : World) (x y z : ℕ) → congruent w x y ≡ true → congruent w y z ≡ true → congruent w x z ≡ true
-  pub of_objects : (w : World) (x y : ℕ) → congruent w x y ≡ true → is_object_name w x ≡ true
+  pub of_objects : (w : World) (x y : ℕ) → congruent w x y ≡ true → is_stobj_name w x ≡ true
 
--- the first object of each class is a concrete object
+-- the first stobj of each class is a concrete stobj
 abbrev pub HasConcreteClasses : World → Type 0
 HasConcreteClasses w = (x class : ℕ) (d : Descriptor) → definition w x ≡ Some (Concrete d class) → (e : Descriptor) × (c : ℕ) × (definition w class ≡ Some (Concrete e c))
 
--- an abstract object is congruent to itself alone
+-- an abstract stobj is congruent to itself alone
 pub record IsAlone : Type 0 where
   pub alone : (w : World) (x y : ℕ) (d : AbstractDescriptor) → HasConcreteClasses w → definition w x ≡ Some (Abstract d) → congruent w x y ≡ true → x ≡ y
 
 -- ---- instances
 
--- an instance has the actuals in the places of the object formals, its outputs are the signature's with each formal renamed
+-- an instance has the actuals in the places of the stobj formals, its outputs are the signature's with each formal renamed
 -- to its actual, and it is missing exactly where an actual is not congruent to its formal or is repeated
 pub record IsInstance : Type 0 where
   pub missing : (w : World) (s : Signature) (actuals : List ℕ) → (instance_of w s actuals ≡ None) ↔ ((all_congruent w (stobjs s.ins) actuals && not (repeats actuals)) ≡ false)
   pub ins : (w : World) (s i : Signature) (actuals : List ℕ) → repeats (stobjs s.ins) ≡ false → instance_of w s actuals ≡ Some i → stobjs i.ins ≡ actuals
   pub outs : (w : World) (s i : Signature) (actuals : List ℕ) → instance_of w s actuals ≡ Some i → i.outs ≡ map (renamed_out (zip (stobjs s.ins) actuals)) s.outs
-  pub itself : (w : World) (s : Signature) → AllByRecursion (λ x. is_object_name w x ≡ true) (stobjs s.ins) → repeats (stobjs s.ins) ≡ false → instance_of w s (stobjs s.ins) ≡ Some s
+  pub itself : (w : World) (s : Signature) → AllByRecursion (λ x. is_stobj_name w x ≡ true) (stobjs s.ins) → repeats (stobjs s.ins) ≡ false → instance_of w s (stobjs s.ins) ≡ Some s
 
 -- ---- the first fault
 
@@ -110,13 +110,13 @@ pub record ArePlaces : Type 0 where
 
 -- ---- growth
 
--- the objects that signatures name are objects of the world
-abbrev pub NamesObjects : World → Known → Type 0
-NamesObjects w known = (f : ℕ) (s : Signature) → signature_of w known f ≡ Some s → AllByRecursion (λ x. is_object_name w x ≡ true) (stobjs s.ins)
+-- the stobjs that signatures name are stobjs of the world
+abbrev pub NamesStobjs : World → Known → Type 0
+NamesStobjs w known = (f : ℕ) (s : Signature) → signature_of w known f ≡ Some s → AllByRecursion (λ x. is_stobj_name w x ≡ true) (stobjs s.ins)
 
 -- in a world that has grown a form has the outputs that it had, where no new definition has one of its names
 pub record KeepsOutputs : Type 0 where
-  pub kept : (w new : World) (known : Known) (scope : Scope) (f : Core) → NamesObjects w known → Names (λ x. definition new x ≡ None) f
+  pub kept : (w new : World) (known : Known) (scope : Scope) (f : Core) → NamesStobjs w known → Names (λ x. definition new x ≡ None) f
       → outputs (w ++ new) known scope f ≡ outputs w known scope f
 
 -- ---- cliques

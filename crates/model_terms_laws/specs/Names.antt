@@ -13,7 +13,7 @@ unfoldable mutual
   Names P (Mv parts) = NamesOfAll P parts
   Names P (MvLet names bound body) = AllByRecursion P names × Names P bound × Names P body
   Names P (StobjLet names bound vars producer consumer) = AllByRecursion P names × NamesOfAll P bound × AllByRecursion P vars × Names P producer × Names P consumer
-  Names P (WithLocal object names producer body) = P object × AllByRecursion P names × Names P producer × Names P body
+  Names P (WithLocal stobj names producer body) = P stobj × AllByRecursion P names × Names P producer × Names P body
   Names P (MustBeEqual logic exec) = Names P logic × Names P exec
   Names P (Call f actuals) = P f × NamesOfAll P actuals
 

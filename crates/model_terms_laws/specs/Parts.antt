@@ -5,7 +5,7 @@ use Rattle.model_terms.specs.declared.rule.Mode.{Mode}
 use Rattle.model_terms.specs.Cores.{Core, Cores, none, more, Var, Const, If, Let, Mv, MvLet, StobjLet, WithLocal, MustBeEqual, Call, count}
 use Rattle.model_terms.specs.Worlds.{World, Out, Scope}
 use Rattle.model_terms.specs.Scopes.{name_kinds, binding, producer_scope, consumer_scope, local_scope, body_scope}
-use Rattle.model_terms.specs.Sites.{one_ordinary, first_kind, other_kinds, ins_of, formal_object, actual_expected, parent_in, here, below_parts, below_actuals}
+use Rattle.model_terms.specs.Sites.{one_ordinary, first_kind, other_kinds, ins_of, formal_stobj, actual_expected, parent_in, here, below_parts, below_actuals}
 use Rattle.model_terms.specs.Faults.{Fault, fault_at, first_in, first_at}
 
 -- a fault of child number k
@@ -40,8 +40,8 @@ faults_below w mode scope (MvLet names bound body) expected =
     option_or (child_fault w mode 0 scope bound (name_kinds w names)) (child_fault w mode 1 (binding w scope names) body expected)
 faults_below w mode scope (StobjLet names bound vars producer consumer) expected =
     option_or (child_fault w mode 0 (producer_scope w scope (parent_in bound) names) producer (name_kinds w vars)) (child_fault w mode 1 (consumer_scope w scope names vars) consumer expected)
-faults_below w mode scope (WithLocal object names producer body) expected =
-    option_or (child_fault w mode 0 (local_scope w scope object) producer (name_kinds w names)) (child_fault w mode 1 (body_scope w scope object names) body expected)
+faults_below w mode scope (WithLocal stobj names producer body) expected =
+    option_or (child_fault w mode 0 (local_scope w scope stobj) producer (name_kinds w names)) (child_fault w mode 1 (body_scope w scope stobj names) body expected)
 faults_below w mode scope (MustBeEqual logic exec) expected = option_or (child_fault w mode 0 scope logic expected) (child_fault w mode 1 scope exec expected)
 faults_below w mode scope (Call f actuals) expected = actuals_fault w mode scope (ins_of w f) 0 actuals
 
@@ -55,4 +55,4 @@ pub record GoesDown : Type 0 where
   pub no_actual : (w : World) (mode : Mode) (scope : Scope) (ins : List Out) (k : ℕ) → actuals_fault w mode scope ins k none ≡ None
   pub first_actual : (w : World) (mode : Mode) (scope : Scope) (ins : List Out) (k : ℕ) (f : Core) (fs : Cores)
       → actuals_fault w mode scope ins k (more f fs)
-      ≡ option_or (fault_down k (first_at w mode scope f (formal_object (first_kind ins)) (actual_expected (first_kind ins) f))) (actuals_fault w mode scope (other_kinds ins) (k + 1) fs)
+      ≡ option_or (fault_down k (first_at w mode scope f (formal_stobj (first_kind ins)) (actual_expected (first_kind ins) f))) (actuals_fault w mode scope (other_kinds ins) (k + 1) fs)

@@ -10,19 +10,19 @@ pub fn definitions_are_found_by_name()
     ensures { FindsByName }
 {}
 
-/// Congruence parts the objects into classes.
+/// Congruence parts the stobjs into classes.
 #[tactic(auto, using(crate::proofs::ClassLemmas::is_equivalence))]
 pub fn congruence_is_an_equivalence()
     ensures { IsEquivalence }
 {}
 
-/// An abstract object is congruent to no other.
+/// An abstract stobj is congruent to no other.
 #[tactic(auto, using(crate::proofs::ClassLemmas::is_alone))]
-pub fn abstract_objects_are_alone()
+pub fn abstract_stobjs_are_alone()
     ensures { IsAlone }
 {}
 
-/// An instance renames the object formals of a signature to the actuals.
+/// An instance renames the stobj formals of a signature to the actuals.
 #[tactic(auto, using(crate::proofs::InstanceLemmas::is_instance))]
 pub fn instances_rename()
     ensures { IsInstance }

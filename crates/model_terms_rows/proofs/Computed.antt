@@ -6,16 +6,16 @@ use Rattle.model_terms.specs.Nested.{stobj_let_holds, with_local_holds}
 use Rattle.model_terms.specs.Faults.{first_in, first_fault}
 use Rattle.model_terms_rows.specs.Book.{book}
 use Rattle.model_terms_rows.specs.Examples.{AreRight}
-use Rattle.model_terms_rows.specs.Calls.{object_positions, kept_back}
+use Rattle.model_terms_rows.specs.Calls.{stobj_positions, kept_back}
 use Rattle.model_terms_rows.specs.Values.{misplaced, unequal}
 use Rattle.model_terms_rows.specs.Bindings.{lets, several_values}
 use Rattle.model_terms_rows.specs.Children.{accepted_children, refused_children, refused_parts}
-use Rattle.model_terms_rows.specs.Locals.{local_objects}
+use Rattle.model_terms_rows.specs.Locals.{local_stobjs}
 use Rattle.model_terms_rows.specs.Modes.{macros, functions_that_do_not_run}
 
-pub object_positions_are_right : AreRight object_positions
+pub stobj_positions_are_right : AreRight stobj_positions
 unfolding book outputs below stobj_let_holds with_local_holds first_in first_fault
-object_positions_are_right = record { all = refl }
+stobj_positions_are_right = record { all = refl }
 
 pub kept_back_are_right : AreRight kept_back
 unfolding book outputs below stobj_let_holds with_local_holds first_in first_fault
@@ -49,9 +49,9 @@ pub refused_parts_are_right : AreRight refused_parts
 unfolding book outputs below stobj_let_holds with_local_holds first_in first_fault
 refused_parts_are_right = record { all = refl }
 
-pub local_objects_are_right : AreRight local_objects
+pub local_stobjs_are_right : AreRight local_stobjs
 unfolding book outputs below stobj_let_holds with_local_holds first_in first_fault
-local_objects_are_right = record { all = refl }
+local_stobjs_are_right = record { all = refl }
 
 pub macros_are_right : AreRight macros
 unfolding book outputs below stobj_let_holds with_local_holds first_in first_fault

@@ -25,7 +25,7 @@ macros_are_right = record { answers = refl }
 
 pub constants_are_right : AreConstants
 unfolding book outputs below stobj_let_holds with_local_holds first_in first_fault
-constants_are_right = record { plain = refl; called = refl; unbound = refl; of_object_name = refl; two_values = refl }
+constants_are_right = record { plain = refl; called = refl; unbound = refl; of_stobj_name = refl; two_values = refl }
 
 pub outputs_are_right : AreOutputs
 unfolding book outputs

@@ -1,7 +1,7 @@
--- A small world, and how forms over it are written. The objects st and st2 are congruent, with one scalar field each
+-- A small world, and how forms over it are written. The stobjs st and st2 are congruent, with one scalar field each
 -- (a, b); other has a scalar field (x); kid and kid2 are congruent, with one scalar field each (val, val2); par and par2
 -- are congruent, with an array of three kids (k), an array of two kids (m) and a scalar (n); box has one kid; gate is an abstract
--- object over st.
+-- stobj over st.
 use Rattle.std.specs.Prelude.{ℕ, List, [], ◌∷◌, pos, Bool, true, false, Some, None, codes}
 use Rattle.model_objects.specs.Object.{Object, Integer, Symbol}
 use Rattle.model_symbols.specs.Opening.{truth, nil}
@@ -15,7 +15,7 @@ use Rattle.model_terms.specs.declared.role.Role.TheVariants as role
 use Rattle.model_terms.specs.declared.role.AbstractRole.{AbstractRole}
 use Rattle.model_terms.specs.declared.role.AbstractRole.TheVariants as abstract_role
 
--- ---- names: objects, functions, variables
+-- ---- names: stobjs, functions, variables
 
 abbrev pub st : ℕ
 st = 1
@@ -178,7 +178,7 @@ o = Ordinary
 abbrev pub takes : List Out → List Out → Signature
 takes ins outs = record { ins = ins; outs = outs }
 
--- the variable of an object
+-- the variable of a stobj
 abbrev pub of_object : ℕ → Entry
 of_object name = record { name = name; kind = Stobj name }
 
@@ -194,12 +194,12 @@ field name shape = record { name = name; shape = shape; made = [] }
 abbrev pub scalar : Shape
 scalar = Scalar (Symbol truth) null_object
 
-abbrev pub object : ℕ → ℕ → List Field → Definition
-object name class fields = Concrete (record { name = name; recognizer = 0; creator = 0; fields = fields; congruent_to = None }) class
+abbrev pub stobj : ℕ → ℕ → List Field → Definition
+stobj name class fields = Concrete (record { name = name; recognizer = 0; creator = 0; fields = fields; congruent_to = None }) class
 
--- a function of field k of an object
+-- a function of field k of a stobj
 abbrev pub of_field : ℕ → ℕ → ℕ → Role → Signature → Definition
-of_field name object k r s = Generated (record { name = name; object = object; field = Some k; role = r; signature = s })
+of_field name stobj k r s = Generated (record { name = name; stobj = stobj; field = Some k; role = r; signature = s })
 
 abbrev pub function : ℕ → List ℕ → Signature → Bool → Definition
 function name formals s executable = Defined (record { name = name; formals = formals; signature = s; guard = null; body = null; executable = executable })
@@ -208,38 +208,38 @@ abbrev pub abstract_function : ℕ → AbstractFunction
 abstract_function name = record { name = name; logic = 0; exec = 0 }
 
 abbrev pub of_gate : ℕ → AbstractRole → List ℕ → Signature → Definition
-of_gate name r formals s = OfAbstract (record { name = name; object = gate; role = r; formals = formals; signature = s; guard = null; logic = 0; exec = 0 })
+of_gate name r formals s = OfAbstract (record { name = name; stobj = gate; role = r; formals = formals; signature = s; guard = null; logic = 0; exec = 0 })
 
 unfoldable pub book : World
 book =
     Primitive pair (lisp (codes "CONS") 2 (Listing listing.Cons))
-    ∷ object st st (field 0 scalar ∷ [])
+    ∷ stobj st st (field 0 scalar ∷ [])
     ∷ of_field get_a st 0 role.Access (takes (Stobj st ∷ []) (o ∷ []))
     ∷ of_field update_a st 0 role.Update (takes (o ∷ Stobj st ∷ []) (Stobj st ∷ []))
-    ∷ Generated (record { name = create_st; object = st; field = None; role = role.Creator; signature = takes [] (Stobj st ∷ []) })
-    ∷ object st2 st (field 0 scalar ∷ [])
+    ∷ Generated (record { name = create_st; stobj = st; field = None; role = role.Creator; signature = takes [] (Stobj st ∷ []) })
+    ∷ stobj st2 st (field 0 scalar ∷ [])
     ∷ of_field get_b st2 0 role.Access (takes (Stobj st2 ∷ []) (o ∷ []))
     ∷ of_field update_b st2 0 role.Update (takes (o ∷ Stobj st2 ∷ []) (Stobj st2 ∷ []))
-    ∷ object other other (field 0 scalar ∷ [])
+    ∷ stobj other other (field 0 scalar ∷ [])
     ∷ of_field get_x other 0 role.Access (takes (Stobj other ∷ []) (o ∷ []))
     ∷ of_field update_x other 0 role.Update (takes (o ∷ Stobj other ∷ []) (Stobj other ∷ []))
-    ∷ object kid kid (field 0 scalar ∷ [])
+    ∷ stobj kid kid (field 0 scalar ∷ [])
     ∷ of_field val kid 0 role.Access (takes (Stobj kid ∷ []) (o ∷ []))
     ∷ of_field update_val kid 0 role.Update (takes (o ∷ Stobj kid ∷ []) (Stobj kid ∷ []))
-    ∷ object kid2 kid (field 0 scalar ∷ [])
+    ∷ stobj kid2 kid (field 0 scalar ∷ [])
     ∷ of_field val2 kid2 0 role.Access (takes (Stobj kid2 ∷ []) (o ∷ []))
     ∷ of_field update_val2 kid2 0 role.Update (takes (o ∷ Stobj kid2 ∷ []) (Stobj kid2 ∷ []))
-    ∷ object par par (field 0 (Children kid 3) ∷ field 1 (Children kid 2) ∷ field 2 scalar ∷ [])
+    ∷ stobj par par (field 0 (Children kid 3) ∷ field 1 (Children kid 2) ∷ field 2 scalar ∷ [])
     ∷ of_field k_length par 0 role.Length (takes (Stobj par ∷ []) (o ∷ []))
     ∷ of_field ki par 0 role.Access (takes (o ∷ Stobj par ∷ []) (Stobj kid ∷ []))
     ∷ of_field update_ki par 0 role.Update (takes (o ∷ Stobj kid ∷ Stobj par ∷ []) (Stobj par ∷ []))
     ∷ of_field mi par 1 role.Access (takes (o ∷ Stobj par ∷ []) (Stobj kid ∷ []))
     ∷ of_field get_n par 2 role.Access (takes (Stobj par ∷ []) (o ∷ []))
     ∷ of_field update_n par 2 role.Update (takes (o ∷ Stobj par ∷ []) (Stobj par ∷ []))
-    ∷ object par2 par (field 0 (Children kid 3) ∷ field 1 (Children kid 2) ∷ field 2 scalar ∷ [])
+    ∷ stobj par2 par (field 0 (Children kid 3) ∷ field 1 (Children kid 2) ∷ field 2 scalar ∷ [])
     ∷ of_field ki2 par2 0 role.Access (takes (o ∷ Stobj par2 ∷ []) (Stobj kid ∷ []))
     ∷ of_field mi2 par2 1 role.Access (takes (o ∷ Stobj par2 ∷ []) (Stobj kid ∷ []))
-    ∷ object box box (field 0 (Child kid) ∷ [])
+    ∷ stobj box box (field 0 (Child kid) ∷ [])
     ∷ of_field get_kid box 0 role.Access (takes (Stobj box ∷ []) (Stobj kid ∷ []))
     ∷ of_field update_kid box 0 role.Update (takes (Stobj kid ∷ Stobj box ∷ []) (Stobj box ∷ []))
     ∷ function both (st ∷ st2 ∷ []) (takes (Stobj st ∷ Stobj st2 ∷ []) (Stobj st ∷ Stobj st2 ∷ [])) true
@@ -253,7 +253,7 @@ book =
     ∷ of_gate gate_put abstract_role.Export (v ∷ gate ∷ []) (takes (o ∷ Stobj gate ∷ []) (Stobj gate ∷ []))
     ∷ []
 
--- every object is in scope
+-- every stobj is in scope
 abbrev pub all_objects : Scope
 all_objects =
     of_object st ∷ of_object st2 ∷ of_object other ∷ of_object kid ∷ of_object kid2 ∷ of_object par ∷ of_object par2 ∷ of_object box ∷ of_object gate ∷ []

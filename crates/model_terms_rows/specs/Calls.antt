@@ -1,4 +1,4 @@
--- Calls: what stands in an object position, and what may be called.
+-- Calls: what stands in a stobj position, and what may be called.
 use Rattle.std.specs.Prelude.{List, [], ◌∷◌}
 use Rattle.model_terms.specs.Cores.{If}
 use Rattle.model_terms.specs.declared.rule.Rule.TheVariants.{S1, S2, S8, S12, S16}
@@ -6,8 +6,8 @@ use Rattle.model_terms_rows.specs.Book.{st, st2, other, kid, par, par2, box, gat
 use Rattle.model_terms_rows.specs.Examples.{Example, holds, fault, expression, body, of_macro, of_logic}
 
 -- S1, S2
-abbrev pub object_positions : List Example
-object_positions =
+abbrev pub stobj_positions : List Example
+stobj_positions =
     -- (update-a 1 st)
     expression [] (call update_a (number 1 ∷ var st ∷ [])) holds
     -- (update-a 1 (update-a 2 st))

@@ -1,4 +1,4 @@
--- Children of objects.
+-- Children of stobjs.
 use Rattle.std.specs.Prelude.{List, [], ◌∷◌, neg_ℤ, pos}
 use Rattle.model_objects.specs.Object.{Integer, Text}
 use Rattle.model_terms.specs.Cores.{Const, If, Let, Mv, StobjLet, cores}

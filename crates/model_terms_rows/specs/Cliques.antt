@@ -109,9 +109,9 @@ reads = takes (Stobj st ∷ []) (o ∷ []) ∷ []
 abbrev pub head_examples : List CliqueExample
 head_examples =
     functions (reading ∷ []) reads holds
-    -- an object that is not declared is ordinary, and S10 comes before what is then wrong in the body
+    -- a stobj that is not declared is ordinary, and S10 comes before what is then wrong in the body
     ∷ functions (member up (st ∷ []) [] (call get_a (var st ∷ [])) ∷ []) (takes (o ∷ []) (o ∷ []) ∷ []) (fault S10 (0 ∷ []))
-    -- a declared name that is no formal, or no object
+    -- a declared name that is no formal, or no stobj
     ∷ functions (member up (st ∷ []) (st ∷ st2 ∷ []) (call get_a (var st ∷ [])) ∷ []) reads (fault S10 (0 ∷ []))
     ∷ functions (member up (x ∷ []) (x ∷ []) (var x) ∷ []) (takes (o ∷ []) (o ∷ []) ∷ []) (fault S10 (0 ∷ []))
     ∷ functions (member up (x ∷ []) (u ∷ []) (var x) ∷ []) (takes (o ∷ []) (o ∷ []) ∷ []) (fault S10 (0 ∷ []))
@@ -140,7 +140,7 @@ head_examples =
 
 abbrev pub unrunnable_examples : List CliqueExample
 unrunnable_examples =
-    -- S10 is not tested there, and the objects that it declares are ordinary
+    -- S10 is not tested there, and the stobjs that it declares are ordinary
     record {
       beside = unrunnable up (st ∷ []) ∷ [];
       members = [];
@@ -182,7 +182,7 @@ macro formals body answer = record { formals = formals; body = body; answer = an
 abbrev pub macro_examples : List MacroExample
 macro_examples =
     macro (required (x ∷ y ∷ [])) (call pair (var x ∷ var y ∷ [])) holds
-    -- the name of an object among the formals comes before every fault of the body
+    -- the name of a stobj among the formals comes before every fault of the body
     ∷ macro (required (x ∷ st ∷ [])) (var u) (fault S15 (0 ∷ []))
     ∷ macro (record { required = []; optional = optional st None ∷ []; rest = None; keys = None }) null (fault S15 (0 ∷ []))
     ∷ macro (record { required = []; optional = optional x (Some st) ∷ []; rest = None; keys = None }) null (fault S15 (0 ∷ []))
@@ -201,7 +201,7 @@ pub record AreConstants : Type 0 where
   pub plain : constant_fault book (number 5) ≡ holds
   pub called : constant_fault book (call pair (number 1 ∷ null ∷ [])) ≡ holds
   pub unbound : constant_fault book (var x) ≡ fault S11 []
-  pub of_object_name : constant_fault book (call pair (number 1 ∷ var st ∷ [])) ≡ fault S15 (1 ∷ [])
+  pub of_stobj_name : constant_fault book (call pair (number 1 ∷ var st ∷ [])) ≡ fault S15 (1 ∷ [])
   pub two_values : constant_fault book (call pick (number 1 ∷ [])) ≡ fault S8 []
 
 -- ---- expressions
@@ -232,7 +232,7 @@ pub record AreOutputs : Type 0 where
   -- no instance: the function's own names
   pub own : text [] (call update_a (number 1 ∷ var par ∷ [])) ≡ Some (Stobj st ∷ [])
   pub own_again : text [] (call update_a (number 1 ∷ call update_a (number 1 ∷ var st2 ∷ []) ∷ [])) ≡ Some (Stobj st ∷ [])
-  -- congruence alone decides, so an object out of scope renames too
+  -- congruence alone decides, so a stobj out of scope renames too
   pub unseen : outputs book [] [] (call update_a (number 1 ∷ var st2 ∷ [])) ≡ Some (Stobj st2 ∷ [])
   -- of a `STOBJ-LET`, the consumer's, where the children's names are out of scope
   pub consumer : text [] (StobjLet (kid ∷ []) (cores (call ki (number 0 ∷ var par ∷ []) ∷ [])) (kid ∷ v ∷ []) (var kid) (Mv (cores (var kid ∷ var v ∷ var par ∷ [])))) ≡ Some (o ∷ o ∷ Stobj par ∷ [])

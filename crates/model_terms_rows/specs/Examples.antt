@@ -32,7 +32,7 @@ holds = None
 abbrev pub fault : Rule → List ℕ → Option Fault
 fault r place = Some (record { rule = r; place = place })
 
--- an expression: every object and these names are in scope, and its own outputs are expected
+-- an expression: every stobj and these names are in scope, and its own outputs are expected
 abbrev pub expression : List Entry → Core → Option Fault → Example
 expression names f answer =
     record { mode = Executable; scope = all_objects ++ names; form = f; expected = outs book (all_objects ++ names) f; answer = answer }

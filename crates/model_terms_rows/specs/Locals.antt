@@ -1,4 +1,4 @@
--- Local objects.
+-- Local stobjs.
 use Rattle.std.specs.Prelude.{List, [], ◌∷◌}
 use Rattle.model_terms.specs.Cores.{Let, Mv, WithLocal, cores}
 use Rattle.model_terms.specs.Worlds.{Stobj}
@@ -7,8 +7,8 @@ use Rattle.model_terms_rows.specs.Book.{st, st2, other, gate, get_a, update_a, p
 use Rattle.model_terms_rows.specs.Examples.{Example, holds, fault, expression, body, of_logic}
 
 -- S14, and the second half of S16
-abbrev pub local_objects : List Example
-local_objects =
+abbrev pub local_stobjs : List Example
+local_stobjs =
     -- (with-local-stobj st (mv-let (v st) (let ((st (update-a x st))) (mv (a st) st)) v)) where (one value) is expected
     body (of_value x ∷ []) (WithLocal st (v ∷ st ∷ []) (Let (st ∷ []) (cores (call update_a (var x ∷ var st ∷ []) ∷ [])) (Mv (cores (call get_a (var st ∷ []) ∷ var st ∷ [])))) (var v)) (o ∷ []) holds
     -- (with-local-stobj gate (mv-let (v gate) (mv (gate-get gate) gate) v)) where (one value) is expected

@@ -2,17 +2,17 @@
 #![tactic(auto)]
 
 ghost use Rattle.model_terms_rows.specs.Examples.{AreRight};
-ghost use Rattle.model_terms_rows.specs.Calls.{object_positions, kept_back};
+ghost use Rattle.model_terms_rows.specs.Calls.{stobj_positions, kept_back};
 ghost use Rattle.model_terms_rows.specs.Values.{misplaced, unequal};
 ghost use Rattle.model_terms_rows.specs.Bindings.{lets, several_values};
 ghost use Rattle.model_terms_rows.specs.Children.{accepted_children, refused_children, refused_parts};
-ghost use Rattle.model_terms_rows.specs.Locals.{local_objects};
+ghost use Rattle.model_terms_rows.specs.Locals.{local_stobjs};
 ghost use Rattle.model_terms_rows.specs.Modes.{macros, functions_that_do_not_run};
 ghost use Rattle.model_terms_rows.specs.Cliques.{AreAdmitted, rounds_examples, head_examples, unrunnable_examples, AreMacros, macro_examples, AreConstants, AreExpressions, AreOutputs};
 
-#[tactic(auto, using(crate::proofs::Computed::object_positions_are_right))]
-pub fn object_positions()
-    ensures { AreRight object_positions }
+#[tactic(auto, using(crate::proofs::Computed::stobj_positions_are_right))]
+pub fn stobj_positions()
+    ensures { AreRight stobj_positions }
 {}
 
 #[tactic(auto, using(crate::proofs::Computed::kept_back_are_right))]
@@ -55,9 +55,9 @@ pub fn refused_parts()
     ensures { AreRight refused_parts }
 {}
 
-#[tactic(auto, using(crate::proofs::Computed::local_objects_are_right))]
-pub fn local_objects()
-    ensures { AreRight local_objects }
+#[tactic(auto, using(crate::proofs::Computed::local_stobjs_are_right))]
+pub fn local_stobjs()
+    ensures { AreRight local_stobjs }
 {}
 
 #[tactic(auto, using(crate::proofs::Computed::macros_are_right))]

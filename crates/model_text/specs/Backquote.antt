@@ -1,4 +1,5 @@
--- Backquotes: what stands inside one, and the form that it is short for.
+-- Backquotes: what stands inside one, and the form that it is short for (Common Lisp the Language, second edition, 22.1.3,
+-- Backquote).
 use Rattle.std.specs.Prelude.{List, [], ◌∷◌, Bool, true, false, ◌||◌, if◌then◌else◌, codes}
 use Rattle.model_objects.specs.Object.{Symbol, Pair, list_onto}
 use Rattle.model_symbols.specs.Symbols.{QualifiedName}

@@ -1,4 +1,4 @@
--- What stands first in the bytes.
+-- What stands first in the bytes (Common Lisp the Language, second edition, 22.1).
 use Rattle.std.specs.Prelude.{ℕ, ◌+◌, ◌-◌, ◌==◌, nat_lt, nat_le, List, [], ◌∷◌, ◌++◌, length, Bool, true, false, ◌&&◌, ◌||◌, if◌then◌else◌}
 use Rattle.std.specs.Str.{bytes_eq}
 use Rattle.model_objects.specs.Object.{Integer, Symbol, Text, weight, max_weight}

@@ -1,4 +1,4 @@
--- The parts of a form that are open, and what each lexeme does to them.
+-- The parts of a form that are open, and what each lexeme does to them (Common Lisp the Language, second edition, 22.1).
 use Rattle.std.specs.Prelude.{ℕ, nat_lt, List, [], ◌∷◌, ◌++◌, length, Bool, true, false, Option, Some, None, if◌then◌else◌}
 use Rattle.model_text.specs.Token.{Form}
 use Rattle.model_text.specs.Backquote.{Item, Plain, Made, Spliced, item_form, item_expansion, joined_onto, quoted_item, nil_form}

@@ -1,4 +1,4 @@
--- The spellings of a form, one case for each kind.
+-- The spellings of a form, one case for each kind (Common Lisp the Language, second edition, 22.1).
 use Rattle.std.specs.Prelude.{◌≡◌, ℕ, ◌+◌, ◌<◌, ◌==◌, max, List, [], ◌∷◌, ◌++◌, length, Bool, true, false, ◌&&◌, ◌||◌, not, if◌then◌else◌, ℤ}
 use Rattle.std.specs.List.{list_all}
 use Rattle.model_objects.specs.Object.{Integer, Symbol, Text}

@@ -1,4 +1,4 @@
--- The one printed form of an object.
+-- The one printed form of an object (Common Lisp the Language, second edition, 22.1.6).
 use Rattle.std.specs.Prelude.{ℕ, ◌==◌, List, [], ◌∷◌, ◌++◌, Bool, true, false, ◌&&◌, ◌||◌, not, if◌then◌else◌, is_some, codes}
 use Rattle.std.specs.Char.{is_ascii_digit, is_ascii_uppercase}
 use Rattle.std.specs.List.{list_all, list_any}

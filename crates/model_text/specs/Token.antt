@@ -1,4 +1,4 @@
--- Tokens: what a run of bytes between delimiters is.
+-- Tokens: what a run of bytes between delimiters is (Common Lisp the Language, second edition, 22.1).
 use Rattle.std.specs.Prelude.{ℕ, ◌-◌, ◌==◌, List, [], ◌∷◌, length, map, take, slice_index, Bool, false, ◌||◌, ◌&&◌, not, if◌then◌else◌, ℤ, Option, Some, None}
 use Rattle.std.specs.Char.{to_ascii_uppercase, is_ascii_digit, is_digit}
 use Rattle.std.specs.Int.{is_in_range}

@@ -95,8 +95,8 @@ returns-in_ok-outs-in-WithLocal-clause-is t c =
     let known = seen_known c.args.known.now in
     let scope = seen_scope c.args.scope.now in
     let h = c.args.heap.now in
-    then_seen w known scope h c.args.core.now (views.WithLocal c.in-WithLocal.object c.in-WithLocal.names c.in-WithLocal.producer c.in-WithLocal.body) (option_map seen_outs c.in_ok-outs-in-WithLocal.outs) _ c.in-WithLocal.is (out_with_local w known scope h c.in-WithLocal.object c.in-WithLocal.names c.in-WithLocal.producer c.in-WithLocal.body)
-    (c.in_ok-outs-in-WithLocal.ensures.is ∙ (ap (λ s. outputs w known s (seen_core h c.get-in-WithLocal.result.now)) (c.in_ok-inner-in-WithLocal.ensures ∙ ap (λ ns. body_scope w scope c.in-WithLocal.object.0 (numbers ns)) c.as_slice-in-WithLocal.ensures) ∙ ap (λ f. outputs w known (body_scope w scope c.in-WithLocal.object.0 (numbers c.in-WithLocal.names)) (seen_core h f)) c.get-in-WithLocal.ensures))
+    then_seen w known scope h c.args.core.now (views.WithLocal c.in-WithLocal.stobj c.in-WithLocal.names c.in-WithLocal.producer c.in-WithLocal.body) (option_map seen_outs c.in_ok-outs-in-WithLocal.outs) _ c.in-WithLocal.is (out_with_local w known scope h c.in-WithLocal.stobj c.in-WithLocal.names c.in-WithLocal.producer c.in-WithLocal.body)
+    (c.in_ok-outs-in-WithLocal.ensures.is ∙ (ap (λ s. outputs w known s (seen_core h c.get-in-WithLocal.result.now)) (c.in_ok-inner-in-WithLocal.ensures ∙ ap (λ ns. body_scope w scope c.in-WithLocal.stobj.0 (numbers ns)) c.as_slice-in-WithLocal.ensures) ∙ ap (λ f. outputs w known (body_scope w scope c.in-WithLocal.stobj.0 (numbers c.in-WithLocal.names)) (seen_core h f)) c.get-in-WithLocal.ensures))
 
 pub returns-in_ok-outs-in-MustBeEqual-clause-is : goal.returns-in_ok-outs-in-MustBeEqual-clause-is
 returns-in_ok-outs-in-MustBeEqual-clause-is t c =

@@ -4,4 +4,4 @@ use Rattle.acl_terms.specs.Forms.{numbers}
 use Rattle.acl_outputs.proofs.scopes.other_names.Given as goal
 
 abbrev pub invariant-loop-name : goal.invariant-loop-name
-invariant-loop-name l = other_names l.object.0 (numbers l.names) ≡ numbers l.found ++ other_names l.object.0 (numbers (drop l.name-index l.names))
+invariant-loop-name l = other_names l.stobj.0 (numbers l.names) ≡ numbers l.found ++ other_names l.stobj.0 (numbers (drop l.name-index l.names))

@@ -40,18 +40,17 @@ make_children-loop-preserved t c =
       extends_then (view c.args.nodes.now.items) (view c.loop.nodes.items) (view c.make.new.nodes.items) i.2 c.in_ok-c.ensures.kept,
     )
 
-pub make_slot-returns-in-Scalar-clause-made : goal.make_slot-returns-in-Scalar-clause-made
-make_slot-returns-in-Scalar-clause-made t c =
-    let q : IsField c.args.heap.now c.args.id (fields.Scalar c.in-Scalar.field-0 c.in-Scalar.w) = subst (IsField c.args.heap.now c.args.id) c.in-Scalar.is c.requires.is in
-    let d : to_z w64 (of_z w64 c.number.result) ≡ c.number.result = search rules in
-    subst (λ (f : Field). PartFor c.args.heap.now c.args.layouts.now f (view c.args.nodes.now.items) (view c.args.nodes.now.items) (Own (One (to_z w64 (of_z w64 c.number.result))))) (sym c.in-Scalar.is)
-    (one_for c.args.heap.now c.args.layouts.now c.in-Scalar.field-0 c.in-Scalar.w (view c.args.nodes.now.items) (Own (One (to_z w64 (of_z w64 c.number.result)))) q.0 (ap (λ (v : ℤ). Own (One v)) (d ∙ c.number.ensures)))
+pub make_slot-returns-in_ok-scalar-in-Scalar-clause-made : goal.make_slot-returns-in_ok-scalar-in-Scalar-clause-made
+make_slot-returns-in_ok-scalar-in-Scalar-clause-made t c =
+    let q : IsField c.args.heap.now c.args.id (fields.Scalar c.in-Scalar.kind c.in-Scalar.w) = subst (IsField c.args.heap.now c.args.id) c.in-Scalar.is c.requires.is in
+    subst (λ (f : Field). PartFor c.args.heap.now c.args.layouts.now f (view c.args.nodes.now.items) (view c.args.nodes.now.items) (part_of c.in_ok-scalar-in-Scalar.scalar)) (sym c.in-Scalar.is)
+    (one_for c.args.heap.now c.args.layouts.now c.in-Scalar.kind c.in-Scalar.w (view c.args.nodes.now.items) (part_of c.in_ok-scalar-in-Scalar.scalar) q c.in_ok-scalar-in-Scalar.ensures)
 
 pub make_slot-returns-in_ok-array-in-Array-clause-made : goal.make_slot-returns-in_ok-array-in-Array-clause-made
 make_slot-returns-in_ok-array-in-Array-clause-made t c =
     let q : IsField c.args.heap.now c.args.id (fields.Array c.in-Array.kind c.in-Array.w c.in-Array.n c.in-Array.field-3) = subst (IsField c.args.heap.now c.args.id) c.in-Array.is c.requires.is in
     subst (λ (f : Field). PartFor c.args.heap.now c.args.layouts.now f (view c.args.nodes.now.items) (view c.args.nodes.now.items) (part_of c.in_ok-array-in-Array.array)) (sym c.in-Array.is)
-    (many_for c.args.heap.now c.args.layouts.now c.in-Array.kind c.in-Array.w c.in-Array.n c.in-Array.field-3 (view c.args.nodes.now.items) (part_of c.in_ok-array-in-Array.array) q.0 c.in_ok-array-in-Array.ensures.fits c.in_ok-array-in-Array.ensures.array)
+    (many_for c.args.heap.now c.args.layouts.now c.in-Array.kind c.in-Array.w c.in-Array.n c.in-Array.field-3 (view c.args.nodes.now.items) (part_of c.in_ok-array-in-Array.array) q c.in_ok-array-in-Array.ensures.fits c.in_ok-array-in-Array.ensures.array)
 
 pub make_slot-returns-in_ok-child-in-Child-clause-made : goal.make_slot-returns-in_ok-child-in-Child-clause-made
 make_slot-returns-in_ok-child-in-Child-clause-made t c =

@@ -1,5 +1,6 @@
-use Rattle.std.proofs.Common.{rules, ◌≡◌, take, length}
+use Rattle.std.proofs.Common.{rules, ◌≡◌, take, length, reverse}
 use Rattle.acl_store.proofs.StoreLemmas.{creates, new_typed, cut_back}
+use Rattle.acl_store.proofs.KeepLemmas.{creates_keep}
 use Rattle.acl_store.proofs.store.Store.create.Goals as goal
 
 pub returns-in-Ok-clause-created : goal.returns-in-Ok-clause-created
@@ -13,3 +14,6 @@ returns-in-Err-clause-refused c =
     let l : c.len-before.result ≡ length c.args.self.now.nodes.items = search rules in
     let e : c.truncate.new.self.items ≡ take c.len-before.result c.make.new.nodes.items = search rules in
     cut_back c.args.self.now.nodes.items c.make.new.nodes.items c.truncate.new.self.items c.len-before.result l e c.in-Err.ensures.kept
+
+pub returns-in-Ok-clause-remembers : goal.returns-in-Ok-clause-remembers
+returns-in-Ok-clause-remembers c = creates_keep c.args.heap.now c.args.layouts.now c.args.id.0 _ _ c.in-Ok.n (reverse c.args.self.now.notes.items) c.args.self.now.first (returns-in-Ok-clause-created c) c.in-Ok.ensures.kept

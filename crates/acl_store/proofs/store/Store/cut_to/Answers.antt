@@ -1,6 +1,7 @@
-use Rattle.std.proofs.Common.{rules, ◌≡◌, ◌∙◌, ap, take}
+use Rattle.std.proofs.Common.{rules, ◌≡◌, ◌∙◌, ap, take, reverse}
 use Rattle.acl_store.specs.Views.{view}
 use Rattle.acl_store.proofs.StoreLemmas.{view_take, cuts, cut_typed}
+use Rattle.acl_store.proofs.KeepLemmas.{cuts_keep}
 use Rattle.acl_store.proofs.store.Store.cut_to.Goals as goal
 
 pub returns-clause-nodes : goal.returns-clause-nodes
@@ -11,3 +12,6 @@ returns-clause-cut c = cuts (view c.args.self.now.nodes.items) _ c.args.m.0 c.re
 
 pub returns-clause-typed : goal.returns-clause-typed
 returns-clause-typed c = cut_typed (view c.args.self.now.nodes.items) _ c.args.m.0 c.requires (returns-clause-nodes c)
+
+pub returns-clause-remembers : goal.returns-clause-remembers
+returns-clause-remembers c = cuts_keep (view c.args.self.now.nodes.items) _ c.args.m.0 (reverse c.args.self.now.notes.items) c.args.self.now.first c.requires (returns-clause-nodes c)

@@ -1,0 +1,5 @@
+pub mod EnvironmentLemmas
+pub mod TableLemmas
+pub mod PartLemmas
+pub mod ChildLemmas
+pub mod LawLemmas

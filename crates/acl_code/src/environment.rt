@@ -1,0 +1,174 @@
+//! Names with the slots of their variables.
+
+ghost use Rattle.std.specs.Prelude.{◌≡◌, ◌≤◌, [], ◌∷◌, ◌++◌, ◌+◌, length, take, Some, None, nat_eq, IfOk, OnOk, OnErr, if◌then◌else◌};
+ghost use Rattle.std.specs.Option.{option_or};
+ghost use Rattle.model_slots.specs.Environments.{slot_in, all_bound, ordinary_bound};
+ghost use Rattle.acl_terms.specs.Forms.{numbers};
+ghost use Rattle.acl_worlds.specs.Contents.{seen_world};
+ghost use Rattle.acl_code.specs.Environments.{seen_environment};
+
+use acl_base::SymId;
+use acl_heap::Heap;
+use acl_outputs::is_stobj_name;
+use acl_worlds::World;
+use std::alloc::{AllocError, Global};
+use std::marker::Model;
+
+/// A name with the slot of its variable.
+#[derive(Clone, Copy, Debug)]
+pub struct Binding {
+    pub name: SymId,
+    pub slot: u64,
+}
+
+/// Names with slots, the innermost last. Of a name that stands twice the last counts.
+#[derive(Debug, Drop)]
+pub struct Environment {
+    bindings: Vec<Binding>,
+}
+
+impl Model for Environment {
+    ghost use Rattle.std.specs.Prelude.{List};
+    ghost use Rattle.acl_code.specs.declared.environment.Binding.{Binding};
+
+    ghost Value = { List Binding };
+
+    ghost view = { λ e. e.bindings.items };
+}
+
+/// The slot that a binding gives to a name, or else the one that was found before.
+fn newer(name: SymId, binding: Binding, found: Option<u64>) -> Option<u64>
+    ensures { result ≡ option_or (if nat_eq name.0 binding.name.0 then Some binding.slot else None) found }
+{
+    if name.0 == binding.name.0 {
+        Some(binding.slot)
+    } else {
+        found
+    }
+}
+
+impl Environment {
+    /// An environment without names. It takes no memory.
+    pub fn new(alloc: Global) -> Environment
+        ensures { result ≡ [] }
+    {
+        Environment {
+            bindings: Vec::new(alloc),
+        }
+    }
+
+    /// How many bindings there are.
+    pub fn len(&self) -> usize
+        ensures { result ≡ length self.now }
+    {
+        self.bindings.len()
+    }
+
+    /// Puts a binding innermost. A refused one leaves the environment as it was.
+    pub fn push(&mut self, binding: Binding) -> Result<(), AllocError>
+        ensures ok { OnOk result (self.new ≡ self.old ++ binding ∷ []) }
+        ensures err { OnErr result (self.new ≡ self.old) }
+    {
+        self.bindings.push(binding)?;
+        Ok(())
+    }
+
+    /// Leaves the outermost bindings alone, this many. It takes no memory.
+    pub fn cut(&mut self, to: usize)
+        ensures { self.new ≡ take to self.old }
+    {
+        self.bindings.truncate(to);
+    }
+
+    /// The slot of a name. The cost is linear in the bindings.
+    #[tactic(auto, using(crate::proofs::EnvironmentLemmas::found_step, crate::proofs::EnvironmentLemmas::found_end, crate::proofs::EnvironmentLemmas::found_start))]
+    pub fn find(&self, name: SymId) -> Option<u64>
+        ensures { result ≡ slot_in (seen_environment self.now) name.0 }
+    {
+        let mut found = None;
+        for binding in self.bindings.iter() {
+            found = newer(name, *binding, found);
+        }
+        found
+    }
+}
+
+#[tactic(auto, using(crate::proofs::EnvironmentLemmas::seen_push, crate::proofs::EnvironmentLemmas::take_push, crate::proofs::EnvironmentLemmas::take_all))]
+fn put(environment: &mut Environment, name: SymId, slot: u64) -> Result<(), AllocError>
+    ensures binds { OnOk result (seen_environment environment.new ≡ (name.0, slot) ∷ seen_environment environment.old) }
+    ensures longer { length environment.old ≤ length environment.new }
+    ensures start { take (length environment.old) environment.new ≡ environment.old }
+{
+    environment.push(Binding { name, slot })?;
+    Ok(())
+}
+
+#[tactic(auto, using(crate::proofs::EnvironmentLemmas::take_all))]
+fn put_ordinary(
+    environment: &mut Environment,
+    world: &World,
+    heap: &Heap,
+    name: SymId,
+    slot: u64,
+) -> Result<(), AllocError>
+    ensures binds { OnOk result (seen_environment environment.new ≡ ordinary_bound (seen_world heap.now world.now) slot (name.0 ∷ []) (seen_environment environment.old)) }
+    ensures longer { length environment.old ≤ length environment.new }
+    ensures start { take (length environment.old) environment.new ≡ environment.old }
+{
+    if is_stobj_name(world, heap, name) {
+        Ok(())
+    } else {
+        put(environment, name, slot)?;
+        Ok(())
+    }
+}
+
+/// The slot behind this many from a slot. More than 64 bits count is room that there is not.
+pub fn slot_behind(at: u64, count: usize) -> Result<u64, AllocError>
+    ensures { IfOk result (λ s. s ≡ at + count) }
+{
+    match at.checked_add(count as u64) {
+        Some(slot) => Ok(slot),
+        None => Err(AllocError),
+    }
+}
+
+/// Binds each name innermost, in a slot of its own from `at` on, the first name the innermost of them. Answers the slot
+/// behind them.
+pub fn bind_all(environment: &mut Environment, names: &[SymId], at: u64) -> Result<u64, AllocError>
+    ensures slot { IfOk result (λ s. s ≡ at + length names.now) }
+    ensures binds { OnOk result (seen_environment environment.new ≡ all_bound at (numbers names.now) (seen_environment environment.old)) }
+    ensures longer { length environment.old ≤ length environment.new }
+    ensures start { take (length environment.old) environment.new ≡ environment.old }
+{
+    let behind = slot_behind(at, names.len())?;
+    let mut left = names.len();
+    while left > 0 {
+        left -= 1;
+        put(environment, names[left], at + left as u64)?;
+    }
+    Ok(behind)
+}
+
+/// Binds the names that are no stobj's, each in its slot from `at` on, as `bind_all` does. The value of a stobj has a slot
+/// all the same. Answers the slot behind them.
+pub fn bind_ordinary(
+    environment: &mut Environment,
+    world: &World,
+    heap: &Heap,
+    names: &[SymId],
+    at: u64,
+) -> Result<u64, AllocError>
+    ensures slot { IfOk result (λ s. s ≡ at + length names.now) }
+    ensures binds { OnOk result (seen_environment environment.new ≡ ordinary_bound (seen_world heap.now world.now) at (numbers names.now) (seen_environment environment.old)) }
+    ensures longer { length environment.old ≤ length environment.new }
+    ensures start { take (length environment.old) environment.new ≡ environment.old }
+{
+    let behind = slot_behind(at, names.len())?;
+    let mut left = names.len();
+    while left > 0 {
+        left -= 1;
+        put_ordinary(environment, world, heap, names[left], at + left as u64)?;
+    }
+    Ok(behind)
+}

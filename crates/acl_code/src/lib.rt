@@ -1,0 +1,27 @@
+//! Terms: core forms as the machine runs them, with slots in place of names and numbers in place of functions, in one table.
+#![tactic(auto)]
+
+ghost use Rattle.acl_code.specs.Laws.{TablesGrow};
+
+mod environment;
+mod finish;
+mod loans;
+mod parts;
+mod table;
+mod term;
+
+pub use environment::{Binding, Environment, bind_all, bind_ordinary, slot_behind};
+pub use finish::{
+    finish_call, finish_const, finish_if, finish_let, finish_must_be_equal, finish_mv,
+    finish_mv_let, finish_stobj_let, finish_var, finish_with_local,
+};
+pub use loans::{children, number};
+pub use parts::{put, put_parts};
+pub use table::Terms;
+pub use term::{Child, Operand, Parts, Term};
+
+/// As a table grows its terms go on to stand for their trees, each over those of its parts.
+#[tactic(auto, using(crate::proofs::LawLemmas::tables_grow))]
+pub fn growth_keeps_trees()
+    ensures { TablesGrow }
+{}

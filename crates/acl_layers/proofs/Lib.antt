@@ -1,0 +1,9 @@
+pub mod BindingLemmas
+pub mod EachLemmas
+pub mod ListLemmas
+pub mod NameLemmas
+pub mod PartLemmas
+pub mod RowLemmas
+pub mod ClauseLemmas
+pub mod ScopingLemmas
+pub mod LawLemmas

@@ -1,0 +1,4 @@
+pub mod Sizes
+pub mod Own
+pub mod Walks
+pub mod Laws

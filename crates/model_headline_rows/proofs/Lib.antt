@@ -1,0 +1,4 @@
+pub mod RowSession
+pub mod RowCommands
+pub mod RowLists
+pub mod InstanceLemmas

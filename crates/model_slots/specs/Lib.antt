@@ -1,0 +1,4 @@
+pub mod Trees
+pub mod Environments
+pub mod Resolved
+pub mod Laws
