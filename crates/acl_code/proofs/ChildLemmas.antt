@@ -1,11 +1,9 @@
 -- The children that a `STOBJ-LET` binds, variant by variant and binding by binding.
-use Rattle.std.specs.Prelude.{◌≡◌, ◌≢◌, ℕ, zero, suc, ◌+◌, ◌<◌, ◌≤◌, List, [], ◌∷◌, ◌++◌, length, map, drop, get_or, Bool, Option, Some, None, nat_eq, position, option_map, refl}
-use Rattle.std.specs.List.{list_any}
+use Rattle.std.specs.Prelude.{◌≡◌, ◌≢◌, ℕ, ◌+◌, ◌<◌, ◌≤◌, List, [], ◌∷◌, ◌++◌, length, map, drop, get_or, Option, Some, None, nat_eq, position, option_map, refl}
 use Rattle.std.proofs.Common.{sym, ap, ◌∙◌, arith, drop-cons, add-one, append_assoc}
 use Rattle.std.proofs.Math.ListN.{drop_of_length-le}
 use Rattle.std.proofs.lemmas.List.{append-nil, map-append}
 use Rattle.acl_base.specs.declared.SymId.{SymId}
-use Rattle.acl_base.specs.declared.FnId.{FnId}
 use Rattle.acl_base.specs.declared.Word.{Word}
 use Rattle.acl_heap.specs.Objects.{Objects, object_of}
 use Rattle.model_terms.specs.Cores as cores
@@ -13,11 +11,11 @@ use Rattle.model_terms.specs.Cores.{Reached, reached_from, reached_by, reached, 
 use Rattle.model_terms.specs.Worlds as worlds
 use Rattle.model_slots.specs.Trees as slots
 use Rattle.model_slots.specs.Environments as slots_in
-use Rattle.model_slots.specs.Resolved.{both, number_in, operand_in, index_in, child_in, children_in}
+use Rattle.model_slots.specs.Resolved.{both, number_in, operand_in, child_in, children_in}
 use Rattle.acl_terms.specs.declared.form.Core.{Core}
 use Rattle.acl_terms.specs.declared.form.Core.TheViews as views
 use Rattle.acl_terms.specs.declared.form.Core.TheVariants as variants
-use Rattle.acl_terms.specs.Forms.{numbers, bound_names, seen_core, seen_cores, seen_bound}
+use Rattle.acl_terms.specs.Forms.{bound_names, seen_core, seen_cores, seen_bound}
 use Rattle.acl_terms.specs.FormLaws.{seen_var, seen_const, seen_if, seen_let, seen_mv, seen_mv_let, seen_stobj_let, seen_with_local, seen_must_be_equal, seen_call}
 use Rattle.acl_worlds.specs.Contents.{Content, seen_world, number_of}
 use Rattle.acl_worlds.proofs.WorldLemmas.{seen_names}

@@ -1,14 +1,10 @@
 -- Looking a name up from the outermost binding inwards, and binding names.
-use Rattle.std.specs.Prelude.{◌≡◌, ℕ, zero, suc, ◌+◌, ◌-◌, ◌<◌, ◌≤◌, List, [], ◌∷◌, ◌++◌, length, map, take, drop, Bool, true, false, Option, Some, None, nat_eq, refl, cond, if◌then◌else◌}
+use Rattle.std.specs.Prelude.{◌≡◌, ℕ, zero, suc, ◌+◌, ◌<◌, ◌≤◌, List, [], ◌∷◌, ◌++◌, length, take, drop, Bool, true, false, Option, Some, None, nat_eq, refl, cond, if◌then◌else◌}
 use Rattle.std.specs.Option.{option_or}
-use Rattle.std.proofs.Common.{sym, ap, ◌∙◌, arith, get_or, drop-cons, add-one}
+use Rattle.std.proofs.Common.{ap, ◌∙◌, arith, get_or, drop-cons, add-one}
 use Rattle.std.proofs.Math.ListN.{drop_of_length-le}
-use Rattle.acl_base.specs.declared.SymId.{SymId}
-use Rattle.model_terms.specs.Worlds.{World}
-use Rattle.model_terms.specs.Classes.{is_stobj_name}
 use Rattle.model_slots.specs.Environments as slots
 use Rattle.model_slots.specs.Environments.{slot_in, all_bound, ordinary_bound}
-use Rattle.acl_terms.specs.Forms.{numbers}
 use Rattle.acl_code.specs.declared.environment.Binding.{Binding}
 use Rattle.acl_code.specs.Environments.{seen_environment}
 

@@ -2,4 +2,6 @@ pub mod EnvironmentLemmas
 pub mod TableLemmas
 pub mod PartLemmas
 pub mod ChildLemmas
+pub mod SizeLemmas
+pub mod BuildLemmas
 pub mod LawLemmas

@@ -1,19 +1,23 @@
 -- Tables that grow and are cut, and their trees.
-use Rattle.std.specs.Prelude.{◌≡◌, ℕ, zero, suc, ◌+◌, ◌-◌, ◌<◌, ◌≤◌, List, [], ◌∷◌, ◌++◌, length, map, take, drop, get_or, Option, Some, None, slice_get, option_map, refl}
-use Rattle.std.proofs.Common.{sym, ap, ◌∙◌, arith, subst, length-append, append_assoc, ◌⊎◌, inl, inr}
+use Rattle.std.specs.Prelude.{◌≡◌, ℕ, zero, suc, ◌+◌, ◌<◌, ◌≤◌, List, [], ◌∷◌, ◌++◌, length, map, take, drop, get_or, Option, Some, None, slice_get, option_map, max, refl}
+use Rattle.std.specs.Option.{option_map_or}
+use Rattle.std.proofs.Common.{sym, ap, ◌∙◌, arith, subst, length-append, append_assoc, inl, inr}
 use Rattle.std.proofs.lemmas.List.{get_or_append_left, append-nil}
 use Rattle.std.proofs.Math.Seq.{get_or-append_seam}
 use Rattle.acl_base.specs.declared.TermId.{TermId}
-use Rattle.acl_heap.specs.Objects.{Objects}
 use Rattle.model_symbols.proofs.Positions.{slice_get-push}
 use Rattle.model_slots.specs.Trees.{Tree}
 use Rattle.acl_base.specs.declared.Word.{Word}
-use Rattle.acl_heap.specs.Objects.{object_of}
+use Rattle.acl_heap.specs.Objects.{Objects, Extends, object_of, reach}
 use Rattle.model_slots.specs.Trees as trees
+use Rattle.acl_terms.specs.Forms.{most}
+use Rattle.acl_code.specs.declared.term.Operand.{Operand}
+use Rattle.acl_code.specs.declared.term.Operand.TheVariants as operand
+use Rattle.acl_code.specs.declared.term.Child.{Child}
 use Rattle.acl_code.specs.declared.term.Parts.{Parts}
 use Rattle.acl_code.specs.declared.term.Term.{Term}
 use Rattle.acl_code.specs.declared.term.Term.TheVariants as term
-use Rattle.acl_code.specs.Tables.{tree_in, tree_over, trees_after, forest, tree_at, StandsOver, IsTable, Grown, no_tree, trees_in, EndBelow, AllIn}
+use Rattle.acl_code.specs.Tables.{seen_operand, seen_child, tree_in, tree_over, trees_after, forest, tree_at, StandsOver, IsTable, Grown, no_tree, trees_in, EndBelow, operand_reach, child_reach, term_reach, TermLies, TermsLie}
 
 -- ---- what holds of every table
 
@@ -192,3 +196,75 @@ module _ (h : Objects) where
       there ts u t e
       ∙ (sym (over_early (forest h (take t.0 ts)) r.0 t.0 u (omega (arith, n, s.1)) (i.over t.0 u e))
       ∙ ap (λ vs. tree_over h vs u) (sym all))
+
+-- ---- words
+
+pub most_push : {X : Type 0} (reach_of : X → ℕ) (xs : List X) (x : X) → most (map reach_of (xs ++ x ∷ [])) ≡ max (most (map reach_of xs)) (reach_of x)
+most_push reach_of [] x = omega arith
+most_push reach_of (y ∷ xs) x = let e = most_push reach_of xs x in omega (arith, e)
+
+pub lies_put : (h : Objects) (old new : List Term) (t : Term) → new ≡ old ++ t ∷ [] → TermsLie h old → TermLies h t → TermsLie h new
+lies_put h old new t e l m = rw e (record { all = omega (arith, l.all, m, most_push term_reach old t) })
+
+pub lies_none : (h : Objects) (old new : List Term) → new ≡ old → TermsLie h old → TermsLie h new
+lies_none h old new e l = rw e l
+
+reach_at : (ts : List Term) (i : ℕ) (t : Term) → slice_get ts i ≡ Some t → term_reach t ≤ most (map term_reach ts)
+reach_at [] i t e = cc
+reach_at (u ∷ ts) zero t e = let s : u ≡ t = cc in subst (λ v. term_reach v ≤ max (term_reach u) (most (map term_reach ts))) s (omega arith)
+reach_at (u ∷ ts) (suc i) t e = let r = reach_at ts i t e in omega (arith, r)
+
+pub const_lies : (h : Objects) (ts : List Term) (w : Word) (t : TermId) → TermsLie h ts → slice_get ts t.0 ≡ Some (term.Const w) → reach w ≤ length h
+const_lies h ts w t l e = let r : reach w ≤ most (map term_reach ts) = reach_at ts t.0 (term.Const w) e in omega (arith, r, l.all)
+
+reach_taken : (n : ℕ) (ts : List Term) → most (map term_reach (take n ts)) ≤ most (map term_reach ts)
+reach_taken zero ts = omega arith
+reach_taken (suc n) [] = omega arith
+reach_taken (suc n) (t ∷ ts) = let r = reach_taken n ts in omega (arith, r)
+
+pub lies_taken : (h : Objects) (n : ℕ) (ts : List Term) → TermsLie h ts → TermsLie h (take n ts)
+lies_taken h n ts l = record { all = omega (arith, l.all, reach_taken n ts) }
+
+pub lies_later : (h h' : Objects) (ts : List Term) → Extends h h' → TermsLie h ts → TermsLie h' ts
+lies_later h h' ts e l = record { all = omega (arith, l.all, e.longer) }
+
+-- ---- a heap that grows
+
+module _ (h h' : Objects) (e : Extends h h') where
+  operand_kept : (o : Operand) → operand_reach o ≤ length h → seen_operand h' o ≡ seen_operand h o
+  operand_kept (operand.Slot s) l = refl
+  operand_kept (operand.Const w) l = ap trees.Const (e.same w l)
+
+  index_kept : (o : Option Operand) → option_map_or operand_reach o 0 ≤ length h → option_map (seen_operand h') o ≡ option_map (seen_operand h) o
+  index_kept None l = refl
+  index_kept (Some o) l = ap Some (operand_kept o l)
+
+  child_kept : (c : Child) → child_reach c ≤ length h → seen_child h' c ≡ seen_child h c
+  child_kept c l = rw (index_kept c.index l) refl
+
+  children_kept : (cs : List Child) → most (map child_reach cs) ≤ length h → map (seen_child h') cs ≡ map (seen_child h) cs
+  children_kept [] l = refl
+  children_kept (c ∷ cs) l = rw (child_kept c (omega (arith, l)), children_kept cs (omega (arith, l))) refl
+
+  over_kept : (done : List Tree) (t : Term) → TermLies h t → tree_over h' done t ≡ tree_over h done t
+  over_kept done (term.Slot s) l = refl
+  over_kept done (term.Const w) l = ap (λ o. trees.Leaf (trees.Const o)) (e.same w l)
+  over_kept done (term.Part t) l = refl
+  over_kept done (term.If at test then other) l = refl
+  over_kept done (term.Let at bound body) l = refl
+  over_kept done (term.Mv at parts) l = refl
+  over_kept done (term.MvLet at bound body) l = refl
+  over_kept done (term.StobjLet at children producer consumer) l = ap (λ cs. trees.StobjLet at cs (tree_in done producer) (tree_in done consumer)) (children_kept children l)
+  over_kept done (term.WithLocal at stobj producer body) l = refl
+  over_kept done (term.MustBeEqual logic) l = refl
+  over_kept done (term.Call at function actuals) l = refl
+
+  after_kept : (done : List Tree) (ts : List Term) → most (map term_reach ts) ≤ length h → trees_after h' done ts ≡ trees_after h done ts
+  after_kept done [] l = refl
+  after_kept done (t ∷ ts) l =
+      ap (λ tree. trees_after h' (done ++ tree ∷ []) ts) (over_kept done t (omega (arith, l)))
+      ∙ after_kept (done ++ tree_over h done t ∷ []) ts (omega (arith, l))
+
+pub forest_kept : (h h' : Objects) (ts : List Term) → Extends h h' → TermsLie h ts → forest h' ts ≡ forest h ts
+unfolding forest
+forest_kept h h' ts e l = after_kept h h' e [] ts l.all

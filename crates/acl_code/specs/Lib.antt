@@ -1,3 +1,5 @@
+pub mod Children
 pub mod Environments
 pub mod Laws
+pub mod Sizes
 pub mod Tables

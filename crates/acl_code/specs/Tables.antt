@@ -1,10 +1,12 @@
 -- What the terms of a table stand for in a heap.
 use Rattle.std.specs.Prelude.{◌≡◌, ℕ, ◌+◌, ◌<◌, ◌≤◌, List, [], ◌∷◌, ◌++◌, map, length, take, drop, get_or, Option, Some, None, slice_get, option_map}
+use Rattle.std.specs.Option.{option_map_or}
 use Rattle.std.specs.List.{AllByRecursion}
 use Rattle.acl_base.specs.declared.TermId.{TermId}
-use Rattle.acl_heap.specs.Objects.{Objects, object_of}
+use Rattle.acl_heap.specs.Objects.{Objects, object_of, reach}
 use Rattle.model_slots.specs.Trees as trees
 use Rattle.model_slots.specs.Trees.{Tree}
+use Rattle.acl_terms.specs.Forms.{most}
 use Rattle.acl_code.specs.declared.term.Operand.{Operand}
 use Rattle.acl_code.specs.declared.term.Operand.TheVariants as operand
 use Rattle.acl_code.specs.declared.term.Child.{Child}
@@ -79,6 +81,45 @@ StandsOver n (term.Call at function actuals) = EndBelow n actuals
 pub record IsTable (ts : List Term) : Type 0 where
   pub over : (i : ℕ) (t : Term) → slice_get ts i ≡ Some t → StandsOver i t
 
+-- ---- words
+
+-- how many cells a heap has at least in which the words of a term lie
+abbrev pub operand_reach : Operand → ℕ
+operand_reach (operand.Slot s) = 0
+operand_reach (operand.Const w) = reach w
+
+abbrev pub child_reach : Child → ℕ
+child_reach c = option_map_or operand_reach c.index 0
+
+abbrev pub term_reach : Term → ℕ
+term_reach (term.Slot s) = 0
+term_reach (term.Const w) = reach w
+term_reach (term.Part t) = 0
+term_reach (term.If at test then other) = 0
+term_reach (term.Let at bound body) = 0
+term_reach (term.Mv at parts) = 0
+term_reach (term.MvLet at bound body) = 0
+term_reach (term.StobjLet at children producer consumer) = most (map child_reach children)
+term_reach (term.WithLocal at stobj producer body) = 0
+term_reach (term.MustBeEqual logic) = 0
+term_reach (term.Call at function actuals) = 0
+
+-- the words of a term lie in the heap
+abbrev pub TermLies : Objects → Term → Type 0
+TermLies h t = term_reach t ≤ length h
+
+-- the words of all terms of a table do
+pub record TermsLie (h : Objects) (ts : List Term) : Type 0 where
+  pub all : most (map term_reach ts) ≤ length h
+
+-- the words of an index, of a child and of children do, where there are any
+abbrev pub IndexLies : Objects → Option Operand → Type 0
+IndexLies h index = option_map_or operand_reach index 0 ≤ length h
+
+abbrev pub ChildrenLie : Objects → Option (List Child) → Type 0
+ChildrenLie h None = Unit {0}
+ChildrenLie h (Some cs) = most (map child_reach cs) ≤ length h
+
 -- ---- growth
 
 -- more terms behind those that were there
@@ -117,3 +158,8 @@ pub record IsBuilt (h : Objects) (ts : List Term) (t : Option TermId) (tree : Op
 pub record AreBuilt (h : Objects) (ts : List Term) (parts : Option (List TermId)) (all : Option trees.Trees) : Type 0 where
   pub within : AllWithin ts parts
   pub are : seen_parts h ts parts ≡ all
+
+-- a fact where there is nothing
+abbrev pub IfNone : {A : Type 0} → Option A → Type 0 → Type 0
+IfNone None fact = fact
+IfNone (Some a) fact = Unit {0}

@@ -1,6 +1,6 @@
 //! Names with the slots of their variables.
 
-ghost use Rattle.std.specs.Prelude.{◌≡◌, ◌≤◌, [], ◌∷◌, ◌++◌, ◌+◌, length, take, Some, None, nat_eq, IfOk, OnOk, OnErr, if◌then◌else◌};
+ghost use Rattle.std.specs.Prelude.{◌≡◌, ◌≤◌, ◌<◌, ◌^◌, [], ◌∷◌, ◌++◌, ◌+◌, length, take, Some, None, nat_eq, IfOk, OnOk, OnErr, if◌then◌else◌};
 ghost use Rattle.std.specs.Option.{option_or};
 ghost use Rattle.model_slots.specs.Environments.{slot_in, all_bound, ordinary_bound};
 ghost use Rattle.acl_terms.specs.Forms.{numbers};
@@ -123,25 +123,24 @@ fn put_ordinary(
     }
 }
 
-/// The slot behind this many from a slot. More than 64 bits count is room that there is not.
-pub fn slot_behind(at: u64, count: usize) -> Result<u64, AllocError>
-    ensures { IfOk result (λ s. s ≡ at + count) }
+/// The slot behind this many from a slot.
+pub fn slot_behind(at: u64, count: usize) -> u64
+    requires { at + count < 2 ^ 64 }
+    ensures { result ≡ at + count }
 {
-    match at.checked_add(count as u64) {
-        Some(slot) => Ok(slot),
-        None => Err(AllocError),
-    }
+    at + count as u64
 }
 
 /// Binds each name innermost, in a slot of its own from `at` on, the first name the innermost of them. Answers the slot
 /// behind them.
 pub fn bind_all(environment: &mut Environment, names: &[SymId], at: u64) -> Result<u64, AllocError>
+    requires { at + length names.now < 2 ^ 64 }
     ensures slot { IfOk result (λ s. s ≡ at + length names.now) }
     ensures binds { OnOk result (seen_environment environment.new ≡ all_bound at (numbers names.now) (seen_environment environment.old)) }
     ensures longer { length environment.old ≤ length environment.new }
     ensures start { take (length environment.old) environment.new ≡ environment.old }
 {
-    let behind = slot_behind(at, names.len())?;
+    let behind = slot_behind(at, names.len());
     let mut left = names.len();
     while left > 0 {
         left -= 1;
@@ -159,12 +158,13 @@ pub fn bind_ordinary(
     names: &[SymId],
     at: u64,
 ) -> Result<u64, AllocError>
+    requires { at + length names.now < 2 ^ 64 }
     ensures slot { IfOk result (λ s. s ≡ at + length names.now) }
     ensures binds { OnOk result (seen_environment environment.new ≡ ordinary_bound (seen_world heap.now world.now) at (numbers names.now) (seen_environment environment.old)) }
     ensures longer { length environment.old ≤ length environment.new }
     ensures start { take (length environment.old) environment.new ≡ environment.old }
 {
-    let behind = slot_behind(at, names.len())?;
+    let behind = slot_behind(at, names.len());
     let mut left = names.len();
     while left > 0 {
         left -= 1;

@@ -1,10 +1,10 @@
 //! What is left to do at a form once its parts are built.
 
-ghost use Rattle.std.specs.Prelude.{◌≡◌, ◌<◌, map, length, Some, IfOk, option_map};
-ghost use Rattle.acl_heap.specs.Objects.{object_of};
+ghost use Rattle.std.specs.Prelude.{◌≡◌, ◌<◌, ◌≤◌, map, length, Some, IfOk, option_map};
+ghost use Rattle.acl_heap.specs.Objects.{object_of, reach};
 ghost use Rattle.model_slots.specs.Trees as trees;
 ghost use Rattle.model_slots.specs.Resolved.{both, all_three};
-ghost use Rattle.acl_code.specs.Tables.{Within, AllWithin, seen_term, seen_parts, seen_child, Grown};
+ghost use Rattle.acl_code.specs.Tables.{Within, AllWithin, seen_term, seen_parts, seen_child, Grown, TermsLie, ChildrenLie};
 
 use crate::parts::{put, put_parts};
 use crate::table::Terms;
@@ -19,9 +19,11 @@ pub fn finish_var(
     heap: &Heap,
     slot: Option<u64>,
 ) -> Result<Option<TermId>, AllocError>
+    requires words { TermsLie heap.now terms.old }
     ensures within { IfOk result (λ r. Within terms.new r) }
     ensures is { IfOk result (λ r. seen_term heap.now terms.new r ≡ option_map (λ s. trees.Leaf (trees.Slot s)) slot) }
     ensures grows { Grown terms.old terms.new }
+    ensures words { TermsLie heap.now terms.new }
 {
     match slot {
         None => Ok(None),
@@ -37,9 +39,12 @@ pub fn finish_const(
     heap: &Heap,
     word: Word,
 ) -> Result<Option<TermId>, AllocError>
+    requires word { reach word ≤ length heap.now }
+    requires words { TermsLie heap.now terms.old }
     ensures within { IfOk result (λ r. Within terms.new r) }
     ensures is { IfOk result (λ r. seen_term heap.now terms.new r ≡ Some (trees.Leaf (trees.Const (object_of heap.now word)))) }
     ensures grows { Grown terms.old terms.new }
+    ensures words { TermsLie heap.now terms.new }
 {
     let t = put(terms, heap, Term::Const(word))?;
     Ok(Some(t))
@@ -53,12 +58,14 @@ pub fn finish_if(
     then: Option<TermId>,
     other: Option<TermId>,
 ) -> Result<Option<TermId>, AllocError>
+    requires words { TermsLie heap.now terms.old }
     requires test { Within terms.old test }
     requires then { Within terms.old then }
     requires other { Within terms.old other }
     ensures within { IfOk result (λ r. Within terms.new r) }
     ensures is { IfOk result (λ r. seen_term heap.now terms.new r ≡ all_three (trees.If at) (seen_term heap.now terms.old test) (seen_term heap.now terms.old then) (seen_term heap.now terms.old other)) }
     ensures grows { Grown terms.old terms.new }
+    ensures words { TermsLie heap.now terms.new }
 {
     match test {
         None => Ok(None),
@@ -88,11 +95,13 @@ pub fn finish_let(
     bound: Option<Items<TermId>>,
     body: Option<TermId>,
 ) -> Result<Option<TermId>, AllocError>
+    requires words { TermsLie heap.now terms.old }
     requires bound { AllWithin terms.old bound }
     requires body { Within terms.old body }
     ensures within { IfOk result (λ r. Within terms.new r) }
     ensures is { IfOk result (λ r. seen_term heap.now terms.new r ≡ both (trees.Let at) (seen_parts heap.now terms.old bound) (seen_term heap.now terms.old body)) }
     ensures grows { Grown terms.old terms.new }
+    ensures words { TermsLie heap.now terms.new }
 {
     match bound {
         None => Ok(None),
@@ -113,10 +122,12 @@ pub fn finish_mv(
     at: u64,
     parts: Option<Items<TermId>>,
 ) -> Result<Option<TermId>, AllocError>
-    requires { AllWithin terms.old parts }
+    requires words { TermsLie heap.now terms.old }
+    requires parts { AllWithin terms.old parts }
     ensures within { IfOk result (λ r. Within terms.new r) }
     ensures is { IfOk result (λ r. seen_term heap.now terms.new r ≡ option_map (trees.Mv at) (seen_parts heap.now terms.old parts)) }
     ensures grows { Grown terms.old terms.new }
+    ensures words { TermsLie heap.now terms.new }
 {
     match parts {
         None => Ok(None),
@@ -135,11 +146,13 @@ pub fn finish_mv_let(
     bound: Option<TermId>,
     body: Option<TermId>,
 ) -> Result<Option<TermId>, AllocError>
+    requires words { TermsLie heap.now terms.old }
     requires bound { Within terms.old bound }
     requires body { Within terms.old body }
     ensures within { IfOk result (λ r. Within terms.new r) }
     ensures is { IfOk result (λ r. seen_term heap.now terms.new r ≡ both (trees.MvLet at) (seen_term heap.now terms.old bound) (seen_term heap.now terms.old body)) }
     ensures grows { Grown terms.old terms.new }
+    ensures words { TermsLie heap.now terms.new }
 {
     match bound {
         None => Ok(None),
@@ -161,11 +174,14 @@ pub fn finish_stobj_let(
     producer: Option<TermId>,
     consumer: Option<TermId>,
 ) -> Result<Option<TermId>, AllocError>
+    requires children { ChildrenLie heap.now children }
+    requires words { TermsLie heap.now terms.old }
     requires producer { Within terms.old producer }
     requires consumer { Within terms.old consumer }
     ensures within { IfOk result (λ r. Within terms.new r) }
     ensures is { IfOk result (λ r. seen_term heap.now terms.new r ≡ all_three (trees.StobjLet at) (option_map (map (seen_child heap.now)) children) (seen_term heap.now terms.old producer) (seen_term heap.now terms.old consumer)) }
     ensures grows { Grown terms.old terms.new }
+    ensures words { TermsLie heap.now terms.new }
 {
     match children {
         None => Ok(None),
@@ -196,11 +212,13 @@ pub fn finish_with_local(
     producer: Option<TermId>,
     body: Option<TermId>,
 ) -> Result<Option<TermId>, AllocError>
+    requires words { TermsLie heap.now terms.old }
     requires producer { Within terms.old producer }
     requires body { Within terms.old body }
     ensures within { IfOk result (λ r. Within terms.new r) }
     ensures is { IfOk result (λ r. seen_term heap.now terms.new r ≡ both (trees.WithLocal at stobj.0) (seen_term heap.now terms.old producer) (seen_term heap.now terms.old body)) }
     ensures grows { Grown terms.old terms.new }
+    ensures words { TermsLie heap.now terms.new }
 {
     match producer {
         None => Ok(None),
@@ -225,10 +243,12 @@ pub fn finish_must_be_equal(
     heap: &Heap,
     logic: Option<TermId>,
 ) -> Result<Option<TermId>, AllocError>
-    requires { Within terms.old logic }
+    requires words { TermsLie heap.now terms.old }
+    requires logic { Within terms.old logic }
     ensures within { IfOk result (λ r. Within terms.new r) }
     ensures is { IfOk result (λ r. seen_term heap.now terms.new r ≡ option_map trees.MustBeEqual (seen_term heap.now terms.old logic)) }
     ensures grows { Grown terms.old terms.new }
+    ensures words { TermsLie heap.now terms.new }
 {
     match logic {
         None => Ok(None),
@@ -246,10 +266,12 @@ pub fn finish_call(
     function: Option<FnId>,
     actuals: Option<Items<TermId>>,
 ) -> Result<Option<TermId>, AllocError>
-    requires { AllWithin terms.old actuals }
+    requires words { TermsLie heap.now terms.old }
+    requires actuals { AllWithin terms.old actuals }
     ensures within { IfOk result (λ r. Within terms.new r) }
     ensures is { IfOk result (λ r. seen_term heap.now terms.new r ≡ both (trees.Call at) (option_map (λ (f : FnId). f.0) function) (seen_parts heap.now terms.old actuals)) }
     ensures grows { Grown terms.old terms.new }
+    ensures words { TermsLie heap.now terms.new }
 {
     match function {
         None => Ok(None),

@@ -1,8 +1,9 @@
 //! Terms: core forms as the machine runs them, with slots in place of names and numbers in place of functions, in one table.
 #![tactic(auto)]
 
-ghost use Rattle.acl_code.specs.Laws.{TablesGrow};
+ghost use Rattle.acl_code.specs.Laws.{TablesGrow, HeapsGrow, AreFew};
 
+mod building;
 mod environment;
 mod finish;
 mod loans;
@@ -10,6 +11,7 @@ mod parts;
 mod table;
 mod term;
 
+pub use building::build;
 pub use environment::{Binding, Environment, bind_all, bind_ordinary, slot_behind};
 pub use finish::{
     finish_call, finish_const, finish_if, finish_let, finish_must_be_equal, finish_mv,
@@ -24,4 +26,17 @@ pub use term::{Child, Operand, Parts, Term};
 #[tactic(auto, using(crate::proofs::LawLemmas::tables_grow))]
 pub fn growth_keeps_trees()
     ensures { TablesGrow }
+{}
+
+/// As a heap grows in which the words of a table lie, its terms go on to stand for their trees.
+#[tactic(auto, using(crate::proofs::LawLemmas::heaps_grow))]
+pub fn heap_growth_keeps_trees()
+    ensures { HeapsGrow }
+{}
+
+/// The values of a form with lists of at most 2 ^ 32 names or parts take at most so many slots a level, so that its term can
+/// be made.
+#[tactic(auto, using(crate::proofs::LawLemmas::are_few))]
+pub fn slots_are_few()
+    ensures { AreFew }
 {}

@@ -1,16 +1,17 @@
 //! The children that a `STOBJ-LET` binds.
 
-ghost use Rattle.std.specs.Prelude.{◌≡◌, ◌++◌, ◌∷◌, [], map, nat_eq, Some, None, IfOk, option_map};
-ghost use Rattle.std.specs.Option.{option_copied};
+ghost use Rattle.std.specs.Prelude.{◌≡◌, ◌≤◌, ◌++◌, ◌∷◌, [], map, length, nat_eq, Some, None, IfOk, option_map};
+ghost use Rattle.std.specs.Option.{option_copied, option_map_or};
 ghost use Rattle.std.specs.List.{list_any};
 ghost use Rattle.model_terms.specs.Cores as cores;
 ghost use Rattle.model_terms.specs.Cores.{reached_from, reached_by, reached};
 ghost use Rattle.model_slots.specs.Trees as slots;
 ghost use Rattle.model_slots.specs.Resolved.{number_in, operand_in, index_in, child_in, children_in};
-ghost use Rattle.acl_terms.specs.Forms.{numbers, bound_names, seen_core, seen_cores, seen_bound};
+ghost use Rattle.acl_terms.specs.Forms.{numbers, bound_names, seen_core, seen_cores, seen_bound, core_reach, most, CoreLies};
 ghost use Rattle.acl_worlds.specs.Contents.{seen_world};
 ghost use Rattle.acl_code.specs.Environments.{seen_environment};
-ghost use Rattle.acl_code.specs.Tables.{seen_operand, seen_child};
+ghost use Rattle.acl_code.specs.Tables.{seen_operand, seen_child, operand_reach, ChildrenLie};
+ghost use Rattle.acl_code.specs.Children.{OperandLies, AtLies, FoundLies, ChildLies, BoundLie};
 
 use crate::environment::Environment;
 use crate::term::{Child, Operand};
@@ -31,7 +32,8 @@ pub fn number(world: &World, _heap: &Heap, f: SymId) -> Option<FnId>
 }
 
 fn slot_operand(slot: Option<u64>, _heap: &Heap) -> Option<Operand>
-    ensures { option_map (seen_operand _heap.now) result ≡ option_map slots.Slot slot }
+    ensures is { option_map (seen_operand _heap.now) result ≡ option_map slots.Slot slot }
+    ensures word { OperandLies _heap.now result }
 {
     match slot {
         None => None,
@@ -40,9 +42,11 @@ fn slot_operand(slot: Option<u64>, _heap: &Heap) -> Option<Operand>
 }
 
 /// What a variable or a constant is.
-#[tactic(auto, using(crate::proofs::ChildLemmas::operand_var, crate::proofs::ChildLemmas::operand_const, crate::proofs::ChildLemmas::operand_if, crate::proofs::ChildLemmas::operand_let, crate::proofs::ChildLemmas::operand_mv, crate::proofs::ChildLemmas::operand_mv_let, crate::proofs::ChildLemmas::operand_stobj_let, crate::proofs::ChildLemmas::operand_with_local, crate::proofs::ChildLemmas::operand_must_be_equal, crate::proofs::ChildLemmas::operand_call))]
+#[tactic(auto, using(crate::proofs::ChildLemmas::operand_var, crate::proofs::ChildLemmas::operand_const, crate::proofs::ChildLemmas::operand_if, crate::proofs::ChildLemmas::operand_let, crate::proofs::ChildLemmas::operand_mv, crate::proofs::ChildLemmas::operand_mv_let, crate::proofs::ChildLemmas::operand_stobj_let, crate::proofs::ChildLemmas::operand_with_local, crate::proofs::ChildLemmas::operand_must_be_equal, crate::proofs::ChildLemmas::operand_call, crate::proofs::SizeLemmas::const_word))]
 fn operand(core: &Core, environment: &Environment, heap: &Heap) -> Option<Operand>
-    ensures { option_map (seen_operand heap.now) result ≡ operand_in (seen_environment environment.now) (seen_core heap.now core.now) }
+    requires { CoreLies heap.now core.now }
+    ensures word { OperandLies heap.now result }
+    ensures is { option_map (seen_operand heap.now) result ≡ operand_in (seen_environment environment.now) (seen_core heap.now core.now) }
 {
     match core {
         Core::Var(x) => slot_operand(environment.find(*x), heap),
@@ -59,7 +63,9 @@ fn operand(core: &Core, environment: &Environment, heap: &Heap) -> Option<Operan
 }
 
 fn index(core: Option<&Core>, environment: &Environment, heap: &Heap) -> Option<Option<Operand>>
-    ensures { option_map (option_map (seen_operand heap.now)) result ≡ index_in (seen_environment environment.now) (option_map (seen_core heap.now) (option_copied core.entry)) }
+    requires { AtLies heap.now (option_copied core) }
+    ensures word { FoundLies heap.now result }
+    ensures is { option_map (option_map (seen_operand heap.now)) result ≡ index_in (seen_environment environment.now) (option_map (seen_core heap.now) (option_copied core.entry)) }
 {
     match core {
         None => Some(None),
@@ -81,7 +87,9 @@ fn child_from(
     at: Option<&Core>,
     parent: &Core,
 ) -> Option<Child>
-    ensures { option_map (seen_child heap.now) result ≡ child_in (seen_world heap.now world.now) (seen_environment environment.now) (numbers vars.now) name.0 (reached_from accessor.0 (option_map (seen_core heap.now) (option_copied at.entry)) (seen_core heap.now parent.now)) }
+    requires { AtLies heap.now (option_copied at) }
+    ensures word { ChildLies heap.now result }
+    ensures is { option_map (seen_child heap.now) result ≡ child_in (seen_world heap.now world.now) (seen_environment environment.now) (numbers vars.now) name.0 (reached_from accessor.0 (option_map (seen_core heap.now) (option_copied at.entry)) (seen_core heap.now parent.now)) }
 {
     match variable(parent, heap) {
         None => None,
@@ -104,7 +112,7 @@ fn child_from(
     }
 }
 
-#[tactic(auto, using(crate::proofs::ChildLemmas::reached_one, crate::proofs::ChildLemmas::reached_two, crate::proofs::ChildLemmas::reached_other))]
+#[tactic(auto, using(crate::proofs::ChildLemmas::reached_one, crate::proofs::ChildLemmas::reached_two, crate::proofs::ChildLemmas::reached_other, crate::proofs::SizeLemmas::first_lies))]
 fn child_by(
     world: &World,
     heap: &Heap,
@@ -114,7 +122,9 @@ fn child_by(
     accessor: SymId,
     actuals: &[Core],
 ) -> Option<Child>
-    ensures { option_map (seen_child heap.now) result ≡ child_in (seen_world heap.now world.now) (seen_environment environment.now) (numbers vars.now) name.0 (reached_by accessor.0 (cores.cores (seen_cores heap.now actuals.now))) }
+    requires { most (map core_reach actuals.now) ≤ length heap.now }
+    ensures word { ChildLies heap.now result }
+    ensures is { option_map (seen_child heap.now) result ≡ child_in (seen_world heap.now world.now) (seen_environment environment.now) (numbers vars.now) name.0 (reached_by accessor.0 (cores.cores (seen_cores heap.now actuals.now))) }
 {
     if actuals.len() == 1 {
         return child_from(
@@ -145,7 +155,7 @@ fn child_by(
 }
 
 /// The child that a name is bound to, where the form reaches one.
-#[tactic(auto, using(crate::proofs::ChildLemmas::child_var, crate::proofs::ChildLemmas::child_const, crate::proofs::ChildLemmas::child_if, crate::proofs::ChildLemmas::child_let, crate::proofs::ChildLemmas::child_mv, crate::proofs::ChildLemmas::child_mv_let, crate::proofs::ChildLemmas::child_stobj_let, crate::proofs::ChildLemmas::child_with_local, crate::proofs::ChildLemmas::child_must_be_equal, crate::proofs::ChildLemmas::child_call))]
+#[tactic(auto, using(crate::proofs::ChildLemmas::child_var, crate::proofs::ChildLemmas::child_const, crate::proofs::ChildLemmas::child_if, crate::proofs::ChildLemmas::child_let, crate::proofs::ChildLemmas::child_mv, crate::proofs::ChildLemmas::child_mv_let, crate::proofs::ChildLemmas::child_stobj_let, crate::proofs::ChildLemmas::child_with_local, crate::proofs::ChildLemmas::child_must_be_equal, crate::proofs::ChildLemmas::child_call, crate::proofs::SizeLemmas::call_words))]
 fn child(
     world: &World,
     heap: &Heap,
@@ -154,7 +164,9 @@ fn child(
     name: SymId,
     bound: &Core,
 ) -> Option<Child>
-    ensures { option_map (seen_child heap.now) result ≡ child_in (seen_world heap.now world.now) (seen_environment environment.now) (numbers vars.now) name.0 (reached (seen_core heap.now bound.now)) }
+    requires { CoreLies heap.now bound.now }
+    ensures word { ChildLies heap.now result }
+    ensures is { option_map (seen_child heap.now) result ≡ child_in (seen_world heap.now world.now) (seen_environment environment.now) (numbers vars.now) name.0 (reached (seen_core heap.now bound.now)) }
 {
     match bound {
         Core::Var(_) => None,
@@ -173,7 +185,7 @@ fn child(
 }
 
 /// The children of all bindings, where each reaches one.
-#[tactic(auto, using(crate::proofs::ChildLemmas::found_start, crate::proofs::ChildLemmas::found_end, crate::proofs::ChildLemmas::found_step, crate::proofs::ChildLemmas::found_none))]
+#[tactic(auto, using(crate::proofs::ChildLemmas::found_start, crate::proofs::ChildLemmas::found_end, crate::proofs::ChildLemmas::found_step, crate::proofs::ChildLemmas::found_none, crate::proofs::SizeLemmas::bound_lies, crate::proofs::SizeLemmas::children_push))]
 pub fn children(
     alloc: Global,
     world: &World,
@@ -182,7 +194,9 @@ pub fn children(
     vars: &[SymId],
     bindings: &[(SymId, Core)],
 ) -> Result<Option<Items<Child>>, AllocError>
-    ensures { IfOk result (λ r. option_map (map (seen_child heap.now)) r ≡ children_in (seen_world heap.now world.now) (seen_environment environment.now) (numbers vars.now) (bound_names bindings.now) (cores.cores (seen_bound heap.now bindings.now))) }
+    requires { BoundLie heap.now bindings.now }
+    ensures words { IfOk result (λ r. ChildrenLie heap.now r) }
+    ensures are { IfOk result (λ r. option_map (map (seen_child heap.now)) r ≡ children_in (seen_world heap.now world.now) (seen_environment environment.now) (numbers vars.now) (bound_names bindings.now) (cores.cores (seen_bound heap.now bindings.now))) }
 {
     let mut found = Items::new(alloc);
     for binding in bindings {

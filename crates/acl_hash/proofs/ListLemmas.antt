@@ -177,7 +177,7 @@ is_listing {symbols} {p} {ps} {h} {ws} a f k d l e =
 pub empty_known : (symbols : List QualifiedName) (p : Held) (ps : Places) → ps ≡ [] → KnowsField symbols p ps
 empty_known symbols p ps e k b r h = absurd (no_part b r (subst (λ (qs : Places). part_of b (entry_at qs k) ≡ Some r) e h))
 
-value_known : (symbols : List QualifiedName) (q : Object ℕ) (list : List (Object ℕ × Object ℕ)) (v : Object ℕ) → KnowsPairs symbols list → value_at by_number q list ≡ Some v
+pub value_known : (symbols : List QualifiedName) (q : Object ℕ) (list : List (Object ℕ × Object ℕ)) (v : Object ℕ) → KnowsPairs symbols list → value_at by_number q list ≡ Some v
     → Knows (length symbols) q × Knows (length symbols) v
 value_known symbols q [] v h e = absurd (none e)
   where

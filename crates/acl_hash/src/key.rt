@@ -47,6 +47,14 @@ impl Key {
         }
         Ok(Key { bytes })
     }
+
+    /// Another key of the same object.
+    pub fn copied(&self, alloc: Global) -> Result<Key, AllocError>
+        ensures { IfOk result (λ k. k ≡ self.now) }
+    {
+        let bytes = Vec::from_slice(alloc, self.bytes.as_slice())?;
+        Ok(Key { bytes })
+    }
 }
 
 impl PartialEq for Key {

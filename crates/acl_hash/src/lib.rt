@@ -15,3 +15,4 @@ mod tests;
 pub use entry::Entry;
 pub use field::HashField;
 pub use key::Key;
+pub use sorting::sorted;

@@ -1,9 +1,9 @@
 -- Bindings, bodies and names.
-use Rattle.std.specs.Prelude.{◌≡◌, ℕ, zero, suc, ◌+◌, ◌<◌, ◌≤◌, List, [], ◌∷◌, ◌++◌, length, map, max, drop, Option, Some, None, true, false, not, ◌&&◌, ◌||◌, nat_eq, option_map, option_and_then, if◌then◌else◌, refl}
+use Rattle.std.specs.Prelude.{◌≡◌, ℕ, zero, suc, ◌+◌, ◌<◌, ◌≤◌, List, [], ◌∷◌, ◌++◌, length, map, max, drop, Some, None, true, false, not, ◌&&◌, ◌||◌, nat_eq, option_map, if◌then◌else◌, refl}
 use Rattle.std.proofs.Common.{sym, ap, ◌∙◌, get_or, drop-cons, add-one, append_assoc, arith}
 use Rattle.std.proofs.Math.ListN.{drop_of_length-le}
 use Rattle.std.proofs.lemmas.List.{append-nil, map-append}
-use Rattle.model_objects.specs.Object.{Object, Integer, Symbol, Text, Pair}
+use Rattle.model_objects.specs.Object.{Object}
 use Rattle.model_symbols.specs.Symbols.{QualifiedName}
 use Rattle.model_terms.specs.Classes.{has}
 use Rattle.model_expansion.specs.Words.{declare_word}
@@ -12,7 +12,6 @@ use Rattle.model_expansion.specs.Layers.{binding, binding_in, body_of, bound_nam
 use Rattle.model_expansion.specs.Layers as layers
 use Rattle.acl_base.specs.declared.SymId.{SymId}
 use Rattle.acl_base.specs.declared.Word.{Word}
-use Rattle.acl_base.specs.declared.Word.TheVariants.{Small}
 use Rattle.acl_heap.specs.Objects.{Objects, object_of, reach}
 use Rattle.acl_terms.specs.Forms.{numbers, most}
 use Rattle.acl_layers.specs.Lists.{only_two, seen_binding, seen_bindings, bindings_reach}

@@ -1,12 +1,12 @@
 -- Clauses of COND and CASE, and their rows.
 use Rattle.std.specs.Prelude.{◌≡◌, ℕ, List, [], ◌∷◌, Bool, true, false, not, ◌&&◌, ◌||◌, Option, Some, None, if◌then◌else◌, refl}
 use Rattle.std.proofs.Common.{sym, ap, ◌∙◌}
-use Rattle.model_objects.specs.Object.{Object, Integer, Symbol, Text, Pair}
+use Rattle.model_objects.specs.Object.{Object}
 use Rattle.model_symbols.specs.Opening.{truth}
 use Rattle.model_symbols.specs.Symbols.{QualifiedName}
 use Rattle.model_expansion.specs.Forms.{elements, is}
 use Rattle.model_expansion.specs.TypeTerms.{false_core}
-use Rattle.model_expansion.specs.Layers.{Cond, CondTest, Case, Clauses, Form, Ready, Rest, Made, Again, leaf, if_made, hidden_let, is_none, is_cond_clause, are_cond_clauses, is_default, is_case_clause, are_case_clauses, cond_layer, case_layer, key_test, made_of}
+use Rattle.model_expansion.specs.Layers.{Cond, CondTest, Case, Clauses, Form, Ready, Rest, Again, leaf, if_made, hidden_let, is_none, is_cond_clause, are_cond_clauses, is_default, is_case_clause, are_case_clauses, cond_layer, case_layer, key_test, made_of}
 use Rattle.acl_layers.specs.Lists.{only_one, only_two}
 use Rattle.acl_layers.specs.Layers.{AreClauses}
 

@@ -7,3 +7,4 @@ pub mod RowLemmas
 pub mod ClauseLemmas
 pub mod ScopingLemmas
 pub mod LawLemmas
+pub mod TypedLemmas

@@ -1,9 +1,8 @@
 -- True lists and what stands along them.
-use Rattle.std.specs.Prelude.{◌≡◌, ℕ, List, [], ◌∷◌, ◌++◌, true, false, Bool, Some, None, Option, option_map, nat_eq, if◌then◌else◌, refl}
+use Rattle.std.specs.Prelude.{◌≡◌, ℕ, List, [], ◌∷◌, ◌++◌, true, false, Bool, Some, None, option_map, if◌then◌else◌, refl}
 use Rattle.std.proofs.Common.{sym, ap, ◌∙◌}
 use Rattle.std.proofs.lemmas.List.{append-nil}
 use Rattle.model_objects.specs.Object.{Object, Integer, Symbol, Text, Pair}
-use Rattle.model_symbols.specs.Opening.{nil}
 use Rattle.model_prims.specs.Kinds.{by_number}
 use Rattle.model_prims.specs.Lists.{is_true_list}
 use Rattle.model_expansion.specs.Forms.{elements}

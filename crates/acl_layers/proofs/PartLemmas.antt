@@ -1,5 +1,5 @@
 -- Parts at the end of others.
-use Rattle.std.specs.Prelude.{◌≡◌, ℕ, ◌+◌, ◌<◌, ◌≤◌, List, [], ◌∷◌, ◌++◌, length, map, max, refl}
+use Rattle.std.specs.Prelude.{◌≡◌, ℕ, ◌<◌, List, [], ◌∷◌, ◌++◌, length, map, max}
 use Rattle.std.proofs.Common.{sym, ap, ◌∙◌, append_assoc, arith}
 use Rattle.std.proofs.lemmas.List.{append-nil, map-append}
 use Rattle.model_objects.specs.Object.{Object}
@@ -9,7 +9,7 @@ use Rattle.acl_heap.specs.Objects.{Objects, object_of, reach}
 use Rattle.acl_terms.specs.Forms.{most}
 use Rattle.acl_layers.specs.declared.layer.Part.{Part}
 use Rattle.acl_layers.specs.declared.layer.Part.TheVariants as part
-use Rattle.acl_layers.specs.Layers.{seen_part, seen_parts, part_reach, parts_reach, PartFits, PartsFit}
+use Rattle.acl_layers.specs.Layers.{seen_part, seen_parts, part_reach, parts_reach, PartsFit}
 use Rattle.acl_layers.proofs.BindingLemmas.{most_append}
 
 pub form_pushed : (h : Objects) (ps : List Part) (w : Word) → seen_parts h (ps ++ part.Form w ∷ []) ≡ seen_parts h ps ++ layers.Form (object_of h w) ∷ []

@@ -1,14 +1,14 @@
 -- What each row makes, by what is left.
-use Rattle.std.specs.Prelude.{◌≡◌, ℕ, ℤ, List, [], ◌∷◌, ◌++◌, length, map, Bool, ◌&&◌, Option, Some, None, true, false, option_map, option_and_then, if◌then◌else◌, codes, refl}
+use Rattle.std.specs.Prelude.{◌≡◌, ℕ, ℤ, List, [], ◌∷◌, map, Bool, ◌&&◌, Some, None, true, false, option_map, if◌then◌else◌, codes, refl}
 use Rattle.std.proofs.Common.{sym, ap, ◌∙◌}
-use Rattle.model_objects.specs.Object.{Object, Integer, Symbol, Text, Pair}
+use Rattle.model_objects.specs.Object.{Object, Integer}
 use Rattle.model_symbols.specs.Symbols.{QualifiedName}
-use Rattle.model_terms.specs.Cores.{Core, Var, Const}
+use Rattle.model_terms.specs.Cores.{Var, Const}
 use Rattle.model_lists.specs.Types.{cons_word, not_word}
 use Rattle.model_expansion.specs.Words.{hidden_variable_word, unary_minus_word, binary_plus_word}
 use Rattle.model_expansion.specs.Forms.{is_key}
 use Rattle.model_expansion.specs.TypeTerms.{true_core, false_core, type_term}
-use Rattle.model_expansion.specs.Layers.{MacroRow, Quote, If, Let, Mv, MvLet, StobjLet, WithLocal, MustBeEqual, And, Or, Cond, Case, LetStar, Listing, ListStar, Chain, Minus, Added, Two, Turned, Negated, Path, Then, Mbt, Mbe, The, OrTest, CondTest, Clauses, Bindings, Checked, MvNode, MustBeEqualNode, Form, Ready, Rest, Made, Again, node, leaf, if_made, hidden_let, hidden_variable, call_made, false_part, constant, checked_made, path_made, letter_function, is_none, made_of}
+use Rattle.model_expansion.specs.Layers.{MacroRow, Quote, If, Mv, MustBeEqual, And, Or, Cond, Listing, ListStar, Chain, Minus, Added, Two, Turned, Negated, Path, Then, Mbt, Mbe, The, OrTest, CondTest, Checked, MvNode, MustBeEqualNode, Form, Rest, Again, node, leaf, if_made, hidden_let, hidden_variable, call_made, false_part, constant, checked_made, letter_function, is_none, made_of}
 use Rattle.acl_layers.specs.Lists.{only_one, only_two, only_three, only_four}
 
 -- ---- as many as a row takes

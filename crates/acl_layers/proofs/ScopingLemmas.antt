@@ -1,13 +1,13 @@
 -- The rows of forms that bind variables.
-use Rattle.std.specs.Prelude.{◌≡◌, ℕ, ◌+◌, ◌<◌, ◌≤◌, List, [], ◌∷◌, ◌++◌, length, map, Bool, true, false, not, ◌&&◌, ◌||◌, nat_le, is_some, Option, Some, None, option_map, option_and_then, if◌then◌else◌, refl}
+use Rattle.std.specs.Prelude.{◌≡◌, ℕ, ◌<◌, ◌≤◌, List, [], ◌∷◌, ◌++◌, length, true, false, ◌&&◌, nat_le, is_some, Option, Some, None, option_map, option_and_then, if◌then◌else◌, refl}
 use Rattle.std.proofs.Common.{sym, ap, ◌∙◌, arith}
 use Rattle.std.proofs.lemmas.Bool.Decides.{nat_tests}
 use Rattle.std.proofs.lemmas.List.{length-map}
-use Rattle.model_objects.specs.Object.{Object, Integer, Symbol, Text, Pair}
+use Rattle.model_objects.specs.Object.{Object, Symbol}
 use Rattle.model_symbols.specs.Symbols.{QualifiedName}
 use Rattle.model_symbols.specs.Opening.{nil}
-use Rattle.model_expansion.specs.Forms.{elements, each, each_of, are_different, variable_name}
-use Rattle.model_expansion.specs.Layers.{Let, LetStar, Bindings, MvLet, StobjLet, WithLocal, LetNode, MvLetNode, WithLocalNode, Form, Rest, Made, Again, node, is_none, binding, bindings, variables, body_of, let_of, let_made, let_star_made, mv_names, mv_let_parts, written_mv_let, stobj_let_of, made_of}
+use Rattle.model_expansion.specs.Forms.{elements, each, are_different, variable_name}
+use Rattle.model_expansion.specs.Layers.{Let, LetStar, Bindings, MvLet, StobjLet, WithLocal, LetNode, MvLetNode, WithLocalNode, Form, Rest, Made, Again, node, is_none, binding, bindings, variables, body_of, let_of, mv_names, mv_let_parts, written_mv_let, stobj_let_of, made_of}
 use Rattle.acl_base.specs.declared.SymId.{SymId}
 use Rattle.acl_terms.specs.Forms.{numbers}
 use Rattle.acl_layers.specs.Lists.{items_along, only_two, only_four}

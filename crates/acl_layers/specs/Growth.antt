@@ -1,12 +1,11 @@
 -- What layers stand for stays when the heap grows.
-use Rattle.std.specs.Prelude.{◌≡◌, ℕ, ◌≤◌, List, [], ◌∷◌, ◌++◌, length, Option, Some, None, refl}
+use Rattle.std.specs.Prelude.{◌≡◌, ◌≤◌, List, [], ◌∷◌, ◌++◌, length, Option, Some, None, refl}
 use Rattle.std.proofs.Common.{sym, ap, ◌∙◌, subst, arith}
-use Rattle.model_objects.specs.Object.{Object}
 use Rattle.model_terms.specs.Cores as cores
 use Rattle.model_expansion.specs.Layers as layers
 use Rattle.model_expansion.specs.Layers.{key_test}
 use Rattle.acl_base.specs.declared.Word.{Word}
-use Rattle.acl_heap.specs.Objects.{Objects, object_of, reach, Extends}
+use Rattle.acl_heap.specs.Objects.{Objects, object_of, Extends}
 use Rattle.acl_layers.specs.declared.rows.Row.{Row}
 use Rattle.acl_layers.specs.declared.rows.Row.TheVariants as row
 use Rattle.acl_layers.specs.declared.layer.Left.{Left}

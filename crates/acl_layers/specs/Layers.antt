@@ -1,5 +1,5 @@
 -- The layers that those of the program stand for in a heap, and how far their words reach.
-use Rattle.std.specs.Prelude.{◌≡◌, ℕ, ◌≤◌, List, [], ◌∷◌, length, map, max, true, unwrap_or, Option, Some, None}
+use Rattle.std.specs.Prelude.{◌≡◌, ℕ, ◌≤◌, List, [], ◌∷◌, length, map, true, unwrap_or, Option, Some, None}
 use Rattle.model_objects.specs.Object.{Object}
 use Rattle.model_symbols.specs.Symbols.{QualifiedName}
 use Rattle.model_terms.specs.Cores as cores
@@ -23,7 +23,7 @@ use Rattle.acl_layers.specs.declared.layer.Found.TheVariants as found
 use Rattle.acl_layers.specs.declared.layer.Made.{Made}
 use Rattle.acl_layers.specs.declared.layer.Made.TheVariants as made
 use Rattle.acl_layers.specs.Rows.{seen_row}
-use Rattle.acl_layers.specs.Lists.{seen_left, left_reach, LeftLies}
+use Rattle.acl_layers.specs.Lists.{seen_left, left_reach}
 
 -- ---- parts
 
@@ -71,11 +71,15 @@ RestFits h row.CondRest l = AreClauses (seen_left h l)
 RestFits h row.CondTest l = AreClauses (seen_left h l)
 RestFits h m l = Unit {0}
 
--- a row that tests no type
-abbrev pub IsUntyped : Row → Type 0
-IsUntyped row.The = ⊥
-IsUntyped row.Checked = ⊥
-IsUntyped m = Unit {0}
+-- a row of the table, and not what is left of one
+abbrev pub IsWhole : Row → Type 0
+IsWhole row.OrTest = ⊥
+IsWhole row.CondTest = ⊥
+IsWhole row.CondRest = ⊥
+IsWhole row.Clauses = ⊥
+IsWhole row.Bindings = ⊥
+IsWhole row.Checked = ⊥
+IsWhole m = Unit {0}
 
 abbrev pub PartFits : Objects → Part → Type 0
 PartFits h (part.Form w) = Unit {0}

@@ -2,8 +2,7 @@
 
 ghost use Rattle.std.specs.Prelude.{◌≡◌, []};
 ghost use Rattle.model_objects.specs.Object.{Object};
-ghost use Rattle.model_prims.specs.Kinds.{is_pair, by_number};
-ghost use Rattle.model_prims.specs.Lists.{is_true_list};
+ghost use Rattle.model_prims.specs.Kinds.{is_pair};
 ghost use Rattle.model_expansion.specs.Forms.{elements, is};
 ghost use Rattle.model_expansion.specs.Layers.{is_none};
 ghost use Rattle.acl_heap.specs.Objects.{Objects, object_of, Lies};
@@ -13,6 +12,7 @@ use crate::layer::Left;
 use crate::words::{self, NIL_WORD};
 use acl_base::Word;
 use acl_heap::{Heap, Seen};
+use acl_types::is_true_list;
 
 /// Whether it is the symbol of this number.
 pub fn is_symbol(heap: &Heap, x: Word, number: u32) -> bool
@@ -118,18 +118,6 @@ pub fn four(heap: &Heap, left: Left) -> Option<(Word, Word, Word, Word)>
     let (a, left) = take(heap, left)?;
     let (b, c, d) = three(heap, left)?;
     Some((a, b, c, d))
-}
-
-/// Whether it is a list that ends in `NIL`.
-pub fn is_true_list(heap: &Heap, list: Word) -> bool
-    requires { Lies heap.now list }
-    ensures { result ≡ is_true_list by_number (object_of heap.now list) }
-{
-    let mut rest = list;
-    while let Seen::Pair(_, next) = heap.look(rest) {
-        rest = next;
-    }
-    is_symbol(heap, rest, words::NIL)
 }
 
 /// What is left of a true list. None where it is none.

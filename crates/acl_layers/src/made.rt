@@ -3,7 +3,7 @@
 ghost use Rattle.std.specs.Prelude.{◌≡◌, IfOk};
 ghost use Rattle.model_expansion.specs.Layers.{made_of};
 ghost use Rattle.acl_layers.specs.Lists.{seen_left, LeftLies};
-ghost use Rattle.acl_layers.specs.Layers.{StandsMade, RestFits, IsUntyped};
+ghost use Rattle.acl_layers.specs.Layers.{StandsMade, RestFits};
 ghost use Rattle.acl_layers.specs.Rows.{seen_row};
 
 use crate::chained::{and, chain, list_star, listing, or, or_test, several};
@@ -15,6 +15,7 @@ use crate::counted::{
 use crate::layer::{Left, Made};
 use crate::rows::Row;
 use crate::scoping::{let_row, let_star, let_star_rest, mv_let, stobj_let, with_local};
+use crate::typed::{checked, the};
 use acl_heap::Heap;
 use acl_syms::Symbols;
 use std::alloc::{AllocError, Global};
@@ -29,7 +30,6 @@ pub fn made_of(
     left: Left,
 ) -> Result<Option<Made>, AllocError>
     requires lies { LeftLies heap.now left }
-    requires untyped { IsUntyped row }
     requires fits { RestFits heap.now row left }
     ensures { IfOk result (λ m. StandsMade heap.now m (made_of syms.now.symbols (seen_row row) (seen_left heap.now left))) }
 {
@@ -58,12 +58,12 @@ pub fn made_of(
         Row::Then => then(alloc, heap, syms, left),
         Row::Mbt => Ok(must_be_true(heap, syms, left)),
         Row::Mbe => must_be_equal_keys(alloc, heap, syms, left),
-        Row::The => unreachable!(),
+        Row::The => the(alloc, heap, syms, left),
         Row::OrTest => or_test(alloc, heap, syms, left),
         Row::CondTest => cond_test(alloc, heap, syms, left),
         Row::CondRest => cond_rest(alloc, heap, syms, left),
         Row::Clauses => clauses(alloc, heap, syms, left),
         Row::Bindings => let_star_rest(alloc, heap, syms, left),
-        Row::Checked => unreachable!(),
+        Row::Checked => checked(alloc, heap, syms, left),
     }
 }

@@ -1,9 +1,10 @@
 //! The table of core forms and built-in macros, by the number of their head.
 
-ghost use Rattle.std.specs.Prelude.{◌≡◌, ◌<◌, Some, option_map, slice_get};
+ghost use Rattle.std.specs.Prelude.{◌≡◌, ◌<◌, Some, option_map, slice_get, IfSome};
 ghost use Rattle.model_expansion.specs.Layers as layers;
 ghost use Rattle.model_expansion.specs.Layers.{core_row, macro_row, path_row, arithmetic_row, path_text};
 ghost use Rattle.acl_layers.specs.Rows.{seen_row, seen_path, seen_unit};
+ghost use Rattle.acl_layers.specs.Layers.{IsWhole};
 
 use crate::words;
 use acl_base::SymId;
@@ -85,7 +86,8 @@ pub enum Row {
 
 /// The row of a core form.
 pub fn core_row(head: SymId) -> Option<Row>
-    ensures { option_map seen_row result ≡ core_row head.0 }
+    ensures is { option_map seen_row result ≡ core_row head.0 }
+    ensures whole { IfSome result IsWhole }
 {
     match head.0 {
         words::QUOTE => Some(Row::Quote),
@@ -138,7 +140,8 @@ fn long_path(place: u32) -> Path
 }
 
 fn path_row(head: SymId) -> Option<Row>
-    ensures { option_map seen_row result ≡ path_row head.0 }
+    ensures is { option_map seen_row result ≡ path_row head.0 }
+    ensures whole { IfSome result IsWhole }
 {
     if words::CAAR <= head.0 && head.0 <= words::CDDDDR {
         return Some(Row::Path(long_path(head.0 - words::CAAR)));
@@ -161,13 +164,15 @@ fn path_row(head: SymId) -> Option<Row>
 }
 
 fn chain(function: u32, unit: Unit) -> Option<Row>
-    ensures { option_map seen_row result ≡ Some (layers.Chain function (seen_unit unit)) }
+    ensures is { option_map seen_row result ≡ Some (layers.Chain function (seen_unit unit)) }
+    ensures whole { IfSome result IsWhole }
 {
     Some(Row::Chain(SymId(function), unit))
 }
 
 fn arithmetic_row(head: SymId) -> Option<Row>
-    ensures { option_map seen_row result ≡ arithmetic_row head.0 }
+    ensures is { option_map seen_row result ≡ arithmetic_row head.0 }
+    ensures whole { IfSome result IsWhole }
 {
     let below = SymId(words::BELOW);
     match head.0 {
@@ -187,14 +192,16 @@ fn arithmetic_row(head: SymId) -> Option<Row>
 }
 
 fn two(function: u32) -> Option<Row>
-    ensures { option_map seen_row result ≡ Some (layers.Two function) }
+    ensures is { option_map seen_row result ≡ Some (layers.Two function) }
+    ensures whole { IfSome result IsWhole }
 {
     Some(Row::Two(Binary::Straight(SymId(function))))
 }
 
-/// The row of a macro.
+/// The row of a macro. It is never what is left of one.
 pub fn macro_row(head: SymId) -> Option<Row>
-    ensures { option_map seen_row result ≡ macro_row head.0 }
+    ensures is { option_map seen_row result ≡ macro_row head.0 }
+    ensures whole { IfSome result IsWhole }
 {
     match head.0 {
         words::AND => Some(Row::And),

@@ -17,25 +17,26 @@ none_some e = cc
 some_same : {X : Type 0} {x y : X} → Some x ≡ Some y → x ≡ y
 some_same e = cc
 
--- a list is told by its items
-by_items : (ls : List (StobjList ℕ)) (l : StobjList ℕ) → spine l ≡ Some (length ls) → ((f : ℕ) (x : StobjList ℕ) → slice_get ls f ≡ Some x → item f l ≡ x) → l ≡ items_of ls
-by_items ls (Value o) e h = absurd (none_some e)
-by_items ls (Pairs ps) e h = absurd (none_some e)
-by_items [] End e h = refl
-by_items (x ∷ ls) End e h = absurd (let g : 0 ≡ suc (length ls) = some_same e in omega (arith, g))
-by_items [] (Item first rest) e h = absurd (none (spine rest) e)
-  where
-    none : (r : Option ℕ) → option_map suc r ≡ Some 0 → ⊥
-    none None e = none_some e
-    none (Some m) e = let g : suc m ≡ 0 = some_same e in omega (arith, g)
-by_items (x ∷ ls) (Item first rest) e h = both (h 0 x refl) (by_items ls rest (fewer (spine rest) e) (λ f y g. h (suc f) y g))
-  where
-    fewer : (r : Option ℕ) → option_map suc r ≡ Some (suc (length ls)) → r ≡ Some (length ls)
-    fewer None e = absurd (none_some e)
-    fewer (Some m) e = let g : suc m ≡ suc (length ls) = some_same e in ap Some (omega (arith, g))
+-- a list is told by its items, also where lists are seen by a form that keeps items
+module _ (seen_by : StobjList ℕ → StobjList ℕ) (ends : seen_by End ≡ End) (items : (x r : StobjList ℕ) → seen_by (Item x r) ≡ Item (seen_by x) (seen_by r)) where
+  by_items : (ls : List (StobjList ℕ)) (l : StobjList ℕ) → spine l ≡ Some (length ls) → ((f : ℕ) (x : StobjList ℕ) → slice_get ls f ≡ Some x → seen_by (item f l) ≡ seen_by x) → seen_by l ≡ seen_by (items_of ls)
+  by_items ls (Value o) e h = absurd (none_some e)
+  by_items ls (Pairs ps) e h = absurd (none_some e)
+  by_items [] End e h = refl
+  by_items (x ∷ ls) End e h = absurd (let g : 0 ≡ suc (length ls) = some_same e in omega (arith, g))
+  by_items [] (Item first rest) e h = absurd (none (spine rest) e)
+    where
+      none : (r : Option ℕ) → option_map suc r ≡ Some 0 → ⊥
+      none None e = none_some e
+      none (Some m) e = let g : suc m ≡ 0 = some_same e in omega (arith, g)
+  by_items (x ∷ ls) (Item first rest) e h = items first rest ∙ (both (h 0 x refl) (by_items ls rest (fewer (spine rest) e) (λ f y g. h (suc f) y g)) ∙ sym (items x (items_of ls)))
+    where
+      fewer : (r : Option ℕ) → option_map suc r ≡ Some (suc (length ls)) → r ≡ Some (length ls)
+      fewer None e = absurd (none_some e)
+      fewer (Some m) e = let g : suc m ≡ suc (length ls) = some_same e in ap Some (omega (arith, g))
 
-    both : {a b : StobjList ℕ} → first ≡ a → rest ≡ b → Item first rest ≡ Item a b
-    both p q = cc
+      both : {a b c d : StobjList ℕ} → a ≡ b → c ≡ d → Item a c ≡ Item b d
+      both p q = cc
 
 module _ {O : Type 0} where
   parts_at : (nodes : List (Node O)) (k f : ℕ) (part : Part O) → slice_get (parts_of nodes k) f ≡ Some part → part_at nodes k f ≡ Some part
@@ -53,33 +54,34 @@ mapped f [] i y e = absurd (none_some e)
 mapped f (x ∷ xs) zero y e = (x, refl, some_same e)
 mapped f (x ∷ xs) (suc i) y e = mapped f xs i y e
 
-module _ {O : Type 0} (shown : O → StobjList ℕ → Type 0) (own : O → StobjList ℕ) (one : (o : O) (l : StobjList ℕ) → shown o l → l ≡ own o) (nodes : List (Node O)) (kept : Kept) (h : Holds shown nodes kept) where
+module _ (seen_by : StobjList ℕ → StobjList ℕ) (ends : seen_by End ≡ End) (items : (x r : StobjList ℕ) → seen_by (Item x r) ≡ Item (seen_by x) (seen_by r))
+    {O : Type 0} (shown : O → StobjList ℕ → Type 0) (own : O → StobjList ℕ) (one : (o : O) (l : StobjList ℕ) → shown o l → seen_by l ≡ seen_by (own o)) (nodes : List (Node O)) (kept : Kept) (h : Holds shown nodes kept) where
   abbrev Stood : ℕ → Type 0
-  Stood d = (k : ℕ) → k < d → k < length nodes → list_at kept.roots (place_at kept.places k) ≡ seen_within own d nodes k
+  Stood d = (k : ℕ) → k < d → k < length nodes → seen_by (list_at kept.roots (place_at kept.places k)) ≡ seen_by (seen_within own d nodes k)
 
   part_stands : (d k f : ℕ) (part : Part O) → Stood d → k < d + 1 → k < length nodes → part_at nodes k f ≡ Some part → Shows shown kept k (field_at kept.places k f) part
-      → list_at kept.roots (field_at kept.places k f) ≡ part_seen own (seen_within own d nodes) part
+      → seen_by (list_at kept.roots (field_at kept.places k f)) ≡ seen_by (part_seen own (seen_within own d nodes) part)
   part_stands d k f (Own o) s w in_nodes at e = one o (list_at kept.roots (field_at kept.places k f)) e
   part_stands d k f (Child c) s w in_nodes at e = let l = e.0 in let low : c < d = omega (arith, w, l) in let there : c < length nodes = omega (arith, l, in_nodes) in
-      ap (list_at kept.roots) (sym e.1) ∙ s c low there
+      ap (λ (p : _). seen_by (list_at kept.roots p)) (sym e.1) ∙ s c low there
   part_stands d k f (Children cs) s w in_nodes at e =
-      by_items (map (seen_within own d nodes) cs) (list_at kept.roots (field_at kept.places k f)) (e.0 ∙ ap Some (sym (length-map cs (seen_within own d nodes))))
+      by_items seen_by ends items (map (seen_within own d nodes) cs) (list_at kept.roots (field_at kept.places k f)) (e.0 ∙ ap Some (sym (length-map cs (seen_within own d nodes))))
       (λ i x g. let m = mapped (seen_within own d nodes) cs i x g in child i x m.0 m.1 m.2)
     where
-      child : (i : ℕ) (x : StobjList ℕ) (c : ℕ) → slice_get cs i ≡ Some c → seen_within own d nodes c ≡ x → item i (list_at kept.roots (field_at kept.places k f)) ≡ x
+      child : (i : ℕ) (x : StobjList ℕ) (c : ℕ) → slice_get cs i ≡ Some c → seen_within own d nodes c ≡ x → seen_by (item i (list_at kept.roots (field_at kept.places k f))) ≡ seen_by x
       child i x c g q = let t = e.1 i c g in let l = t.0 in let low : c < d = omega (arith, w, l) in let there : c < length nodes = omega (arith, l, in_nodes) in
-          sym (at_below (field_at kept.places k f) (i ∷ []) kept.roots (field_there shown h k f (Children cs) at)) ∙ (ap (list_at kept.roots) (sym t.1) ∙ (s c low there ∙ q))
+          ap seen_by (sym (at_below (field_at kept.places k f) (i ∷ []) kept.roots (field_there shown h k f (Children cs) at))) ∙ (ap (λ (p : _). seen_by (list_at kept.roots p)) (sym t.1) ∙ (s c low there ∙ ap seen_by q))
 
-  node_stands : (d k : ℕ) → Stood d → k < d + 1 → k < length nodes → list_at kept.roots (place_at kept.places k) ≡ seen_within own (suc d) nodes k
+  node_stands : (d k : ℕ) → Stood d → k < d + 1 → k < length nodes → seen_by (list_at kept.roots (place_at kept.places k)) ≡ seen_by (seen_within own (suc d) nodes k)
   node_stands d k s w there =
-      by_items (map (part_seen own (seen_within own d nodes)) (parts_of nodes k)) (list_at kept.roots (place_at kept.places k))
+      by_items seen_by ends items (map (part_seen own (seen_within own d nodes)) (parts_of nodes k)) (list_at kept.roots (place_at kept.places k))
       (h.widths k there ∙ ap Some (width_parts nodes k ∙ sym (length-map (parts_of nodes k) (part_seen own (seen_within own d nodes)))))
       (λ f x g. let m = mapped (part_seen own (seen_within own d nodes)) (parts_of nodes k) f x g in let at = parts_at nodes k f m.0 m.1 in
-      sym (at_below (place_at kept.places k) (f ∷ []) kept.roots (h.there k there)) ∙ (part_stands d k f m.0 s w there at (h.shows k f m.0 at) ∙ m.2))
+      ap seen_by (sym (at_below (place_at kept.places k) (f ∷ []) kept.roots (h.there k there))) ∙ (part_stands d k f m.0 s w there at (h.shows k f m.0 at) ∙ ap seen_by m.2))
 
   pub all_stand : (d : ℕ) → Stood d
   all_stand zero k w there = absurd (omega (arith, w))
   all_stand (suc d) k w there = let v : k < d + 1 = omega (arith, w) in node_stands d k (all_stand d) v there
 
 pub stand_for : (O : Type 0) → StandFor O
-stand_for O own nodes kept h k there = let w : k < k + 1 = omega arith in all_stand (λ o l. l ≡ own o) own (λ o l e. e) nodes kept h (k + 1) k w there
+stand_for O own nodes kept h k there = let w : k < k + 1 = omega arith in all_stand (λ l. l) refl (λ x r. refl) (λ o l. l ≡ own o) own (λ o l e. e) nodes kept h (k + 1) k w there

@@ -6,3 +6,4 @@ pub mod LawLemmas
 pub mod JournalLemmas
 pub mod KeepLemmas
 pub mod ObjectLemmas
+pub mod TableLemmas

@@ -1,5 +1,5 @@
 -- The nodes of a new object, by its layout.
-use Rattle.std.proofs.Common.{◌≡◌, ℕ, zero, suc, ◌+◌, ◌<◌, ◌≤◌, ℤ, List, [], ◌∷◌, ◌++◌, map, length, replicate, Some, None, refl, sym, ap, ◌∙◌, subst, arith, inl, inr, Bool}
+use Rattle.std.proofs.Common.{◌≡◌, ℕ, zero, suc, ◌+◌, ◌<◌, ◌≤◌, List, [], ◌∷◌, ◌++◌, map, length, replicate, Some, None, refl, sym, ap, ◌∙◌, subst, arith, inl, inr, Bool}
 use Rattle.std.specs.Prelude.{◌≢◌, ◌⊎◌, ◌^◌, slice_get, option_map}
 use Rattle.std.proofs.lemmas.List.{length-append, length-replicate, length-map, map_push}
 use Rattle.std.proofs.lemmas.Option.{slice_get-map}
@@ -12,7 +12,8 @@ use Rattle.acl_base.specs.declared.LayoutId.{LayoutId}
 use Rattle.acl_base.specs.declared.Word.{Word}
 use Rattle.acl_base.specs.declared.Word.TheVariants.{Small, Big, Sym, Str, Cons}
 use Rattle.acl_heap.specs.Objects.{Objects, object_of}
-use Rattle.model_lists.specs.Lists.{StobjList, Value}
+use Rattle.model_lists.specs.Lists.{StobjList, Value, Pairs}
+use Rattle.acl_base.specs.declared.layout.Test.{Test}
 use Rattle.acl_nodes.specs.Kept.{items_of}
 use Rattle.acl_nodes.specs.Nodes.{Part, Own, Child, Children, Node, part_at, width, layout_at}
 use Rattle.acl_nodes.specs.Making.{MakesNode, MakesParts, Extends}
@@ -20,8 +21,7 @@ use Rattle.acl_nodes.proofs.ExtendLemmas.{extends_self, extends_then, extends_pu
 use Rattle.acl_nodes.proofs.MakingLemmas.{own_part, child_part, children_part, parts_start, parts_step, parts_end}
 use Rattle.acl_nodes.proofs.PushLemmas.{part_one, width_old, width_last, layout_old, layout_last}
 use Rattle.acl_store.specs.Fields as kept
-use Rattle.model_objects.specs.Object.{Object}
-use Rattle.acl_store.specs.Fields.{One, Many, Any, Anys, shown, integer, plain, list_of, IsSmall, number_of}
+use Rattle.acl_store.specs.Fields.{One, Many, Any, Anys, Table, shown, integer, plain, IsSmall, number_of}
 use Rattle.acl_store.specs.Layouts.{IsInitial, born, field_in, size_in, IsOlder, Matches, Follow}
 use Rattle.acl_store.specs.Parts.{part_of}
 use Rattle.acl_store.specs.Views.{parts_of, node_of, view}
@@ -213,6 +213,13 @@ module _ (h : Objects) (layouts : List Layout) where
     grows = extends_self nodes;
     makes = λ lists b. own_part shown (items_of (replicate n (Value (object_of h w)))) nodes (Anys w (replicate n (object_of h w))) (ap items_of (replicated plain n (object_of h w)));
     follows = λ f. (f, (refl, refl, subst (λ (k : ℕ). k < 2 ^ 32) (sym (length-replicate n (object_of h w))) u, λ q. length-replicate n (object_of h w)));
+  })
+
+  pub hash_for : (test : Test) (nodes : List (Node kept.Field)) (part : Part kept.Field) → part ≡ Own (Table []) → PartFor h layouts (fields.Hash test) nodes nodes part
+  hash_for test nodes part e = subst (PartFor h layouts (fields.Hash test) nodes nodes) (sym e) (record {
+    grows = extends_self nodes;
+    makes = λ lists b. own_part shown (Pairs []) nodes (Table []) (record { pairs = []; is = refl; finds = λ k. refl });
+    follows = λ f. (f, refl);
   })
 
   pub child_for : (id : LayoutId) (nodes after : List (Node kept.Field)) (c : ℕ) → NodeFor h layouts id.0 nodes after c → PartFor h layouts (fields.Child id) nodes after (Child c)

@@ -1,5 +1,5 @@
 -- Objects of any kind that are put into fields.
-use Rattle.std.proofs.Common.{◌≡◌, ℕ, zero, suc, ◌<◌, ◌≤◌, List, [], ◌∷◌, ◌++◌, reverse, Option, Some, None, length, set, get_or, refl, sym, ap, ◌∙◌, subst, arith, inl, inr}
+use Rattle.std.proofs.Common.{◌≡◌, ℕ, zero, suc, ◌<◌, ◌≤◌, List, [], ◌∷◌, reverse, Option, Some, None, length, set, get_or, refl, sym, ap, ◌∙◌, subst, arith, inl, inr}
 use Rattle.std.specs.Prelude.{IsSomeAnd, IfSome}
 use Rattle.std.proofs.lemmas.List.{append-nil}
 use Rattle.acl_base.specs.declared.Word.{Word}
@@ -13,7 +13,7 @@ use Rattle.acl_store.specs.Fields.{Field, Any, Anys, plain, IsHeld, with_held}
 use Rattle.acl_store.specs.Layouts.{Follow}
 use Rattle.acl_store.specs.Parts.{part_of, path_in}
 use Rattle.acl_store.specs.Calls.{Nodes, Holds, place_in, IsGeneral, IsObjectPut, WritesObject, StayTyped}
-use Rattle.acl_store.specs.Journals.{own_list, path_noted, note_of, IsNote, IsNotedAt, Remembers, NoteRemembers, ObjectRemembers, StayWritable}
+use Rattle.acl_store.specs.Journals.{bare, ShowsOwn, path_noted, IsNote, IsNotedAt, Remembers, NoteRemembers, ObjectRemembers, StayWritable}
 use Rattle.acl_store.specs.declared.notes.Old.{Old}
 use Rattle.acl_store.specs.declared.notes.OldPart.TheVariants.{Held, Whole}
 use Rattle.acl_store.specs.declared.slot.Slot.{Slot}
@@ -33,15 +33,15 @@ held_note x os i o h e = record {
   suits = (tt, h);
   same = ap (λ (ws : List (Object ℕ)). Own (Anys x ws)) (set_same os i o nothing e h);
   path = λ f. refl;
-  list = ap plain e;
+  shows = ap plain (sym e);
 }
 
 pub any_note : (s : Slot) (o : Object ℕ) (i : ℕ) → part_of s ≡ Own (Any o) → IsNote (Whole s) (Own (Any o)) i
 any_note s o i e = record {
-  suits = (tt, subst IsOwn (sym e) tt);
+  suits = (tt, subst IsOwn (sym e) tt, ap bare e);
   same = e;
   path = λ f. refl;
-  list = ap own_list e;
+  shows = subst (λ (p : Part Field). ShowsOwn p (plain o)) (sym e) refl;
 }
 
 -- ---- calls
@@ -80,7 +80,7 @@ object_old ns after olds first n f i o t a b w p d q kept before r = by (part_at
     by None at p d q = absurd p
     by (Some s) at p d q = write_keeps ns after (t ∷ olds) first n f (path_in s f i) (plain o) s (with_held s i o) at (held_form s i o) q kept before (write_held ns kept r.holds n f i o s at p)
         (note_first ns olds first i t s ((ap (λ (k : ℕ). part_at ns k t.field) a ∙ ap (part_at ns n) b) ∙ at) p d (subst (λ (k : ℕ). k < first) (sym a) w) kept before r)
-        (inl (note_of t, inl refl, a, ([], sym (append-nil (path_noted t.part t.field) ∙ (ap (path_noted t.part) b ∙ d.path f)))))
+        (inl (t, inl refl, a, ([], sym (append-nil (path_noted t.part t.field) ∙ (ap (path_noted t.part) b ∙ d.path f)))))
 
 pub object_noted : (ns after : Nodes) (olds news : List Old) (first n f i : ℕ) (o : Object ℕ) → n < first → IsGeneral ns n f i → IsNotedAt ns n f i olds news → IsObjectPut ns n f i o after
     → ObjectRemembers ns (reverse olds) first n f i o after (reverse news)

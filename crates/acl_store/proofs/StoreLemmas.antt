@@ -1,6 +1,6 @@
 -- What the calls of a store do, by what they do to one part.
 use Rattle.std.proofs.Common.{◌≡◌, ℕ, zero, suc, ◌-◌, ◌<◌, ◌≤◌, ℤ, pos, List, [], ◌∷◌, ◌++◌, map, length, take, replicate, Option, Some, None, refl, sym, ap, ◌∙◌, subst, arith, inl, inr, set, get_or, true, false}
-use Rattle.std.specs.Prelude.{◌≢◌, ◌⊎◌, ◌^◌, slice_get, option_map, IsSomeAnd, IfSome}
+use Rattle.std.specs.Prelude.{◌≢◌, ◌⊎◌, ◌^◌, slice_get, option_map, IsSome, IsSomeAnd, IfSome}
 use Rattle.std.proofs.lemmas.List.{length-set, length-map}
 use Rattle.std.proofs.lemmas.Option.{slice_get_read, slice_get-map}
 use Rattle.acl_base.specs.declared.layout.Field.{Field as LayoutField}
@@ -21,7 +21,7 @@ use Rattle.acl_nodes.proofs.NodeLemmas.{nat_or, part_is, part_within, with_chang
 use Rattle.acl_nodes.proofs.FieldLemmas.{field_there, written, part_written}
 use Rattle.acl_nodes.proofs.CutLemmas.{cut_holds, nothing_holds, length_take, taken_part, taken_width, taken_layout}
 use Rattle.acl_nodes.proofs.MakingLemmas.{created}
-use Rattle.acl_store.specs.Fields.{Field, One, Many, Any, Anys, shown, list_of, integer, plain, IsSmall, number_of, IsElement, IsKept, element, with_element, IsHeld, held, with_held, HasValue, value_at, IsSized, IsFilled, sized, filling, HasLength, length_of}
+use Rattle.acl_store.specs.Fields.{Field, One, Many, Any, Anys, Table, shown, table_in, integer, plain, IsSmall, number_of, IsElement, IsKept, element, with_element, IsHeld, held, with_held, HasValue, value_in, IsSized, IsFilled, sized, filling, HasLength, length_of}
 use Rattle.acl_store.specs.Parts.{part_of, HasChild, child_of}
 use Rattle.acl_store.specs.Layouts.{Matches, Follow, field_in, size_in}
 use Rattle.acl_store.specs.Views.{parts_of, node_of, view}
@@ -69,55 +69,59 @@ module _ {X : Type 0} (g : X → StobjList ℕ) where
 
 -- ---- one part
 
-read_items : {X : Type 0} (g : X → StobjList ℕ) (xs : List X) (d : X) (ns : Nodes) (kept : Kept) (h : Holds ns kept) (k f i : ℕ) (o : Field) → part_at ns k f ≡ Some (Own o) → list_of o ≡ items_of (map g xs)
+read_items : {X : Type 0} (g : X → StobjList ℕ) (xs : List X) (d : X) (ns : Nodes) (kept : Kept) (h : Holds ns kept) (k f i : ℕ) (o : Field) → part_at ns k f ≡ Some (Own o) → ((l : StobjList ℕ) → shown o l → l ≡ items_of (map g xs))
     → i < length xs → list_at kept.roots (below (place_at kept.places k) (f ∷ i ∷ [])) ≡ g (get_or xs i d)
 read_items g xs d ns kept h k f i o at e is =
     ap (list_at kept.roots) (sym (below_both (place_at kept.places k) (f ∷ []) (i ∷ [])))
     ∙ (at_below (field_at kept.places k f) (i ∷ []) kept.roots (field_there shown h k f (Own o) at)
-    ∙ (ap (item i) (h.shows k f (Own o) at ∙ e) ∙ item_of g xs d i is))
+    ∙ (ap (item i) (e (list_at kept.roots (field_at kept.places k f)) (h.shows k f (Own o) at)) ∙ item_of g xs d i is))
 
-pub read_value : (ns : Nodes) (kept : Kept) (h : Holds ns kept) (k f i : ℕ) (p : Part Field) → part_at ns k f ≡ Some p → HasValue p i → list_at kept.roots (place_in kept p k f i) ≡ value_at p i
+pub read_value : (ns : Nodes) (kept : Kept) (h : Holds ns kept) (k f i : ℕ) (p : Part Field) → part_at ns k f ≡ Some p → HasValue p i → list_at kept.roots (place_in kept p k f i) ≡ value_in p i
 read_value ns kept h k f i (Own (One w)) at is = h.shows k f (Own (One w)) at
-read_value ns kept h k f i (Own (Many kind x vs)) at is = read_items integer vs (pos 0) ns kept h k f i (Many kind x vs) at refl is
+read_value ns kept h k f i (Own (Many kind x vs)) at is = read_items integer vs (pos 0) ns kept h k f i (Many kind x vs) at (λ l e. e) is
 read_value ns kept h k f i (Own (Any o)) at is = h.shows k f (Own (Any o)) at
-read_value ns kept h k f i (Own (Anys x os)) at is = read_items plain os nothing ns kept h k f i (Anys x os) at refl is
+read_value ns kept h k f i (Own (Anys x os)) at is = read_items plain os nothing ns kept h k f i (Anys x os) at (λ l e. e) is
+read_value ns kept h k f i (Own (Table cs)) at is = absurd is
 read_value ns kept h k f i (Child c) at is = absurd is
 read_value ns kept h k f i (Children cs) at is = absurd is
 
-pub element_value : (p : Part Field) (i : ℕ) → IsElement p i → HasValue p i × (value_at p i ≡ integer (element p i))
+pub element_value : (p : Part Field) (i : ℕ) → IsElement p i → HasValue p i × (value_in p i ≡ integer (element p i))
 element_value (Own (One w)) i is = (is, refl)
 element_value (Own (Many kind x vs)) i is = (is, refl)
 element_value (Own (Any o)) i is = absurd is
 element_value (Own (Anys x os)) i is = absurd is
+element_value (Own (Table cs)) i is = absurd is
 element_value (Child c) i is = absurd is
 element_value (Children cs) i is = absurd is
 
-pub held_value : (p : Part Field) (i : ℕ) → IsHeld p i → HasValue p i × (value_at p i ≡ plain (held p i))
+pub held_value : (p : Part Field) (i : ℕ) → IsHeld p i → HasValue p i × (value_in p i ≡ plain (held p i))
 held_value (Own (One w)) i is = absurd is
 held_value (Own (Many kind x vs)) i is = absurd is
 held_value (Own (Any o)) i is = (is, refl)
 held_value (Own (Anys x os)) i is = (is, refl)
+held_value (Own (Table cs)) i is = absurd is
 held_value (Child c) i is = absurd is
 held_value (Children cs) i is = absurd is
 
 read_part : (ns : Nodes) (kept : Kept) (h : Holds ns kept) (k f i : ℕ) (p : Part Field) → part_at ns k f ≡ Some p → IsElement p i → list_at kept.roots (place_in kept p k f i) ≡ integer (element p i)
 read_part ns kept h k f i p at is = let e = element_value p i is in read_value ns kept h k f i p at e.0 ∙ e.1
 
-write_one : (ns : Nodes) (kept : Kept) (h : Holds ns kept) (k f : ℕ) (x : StobjList ℕ) (old new : Field) → part_at ns k f ≡ Some (Own old) → x ≡ list_of new
+write_one : (ns : Nodes) (kept : Kept) (h : Holds ns kept) (k f : ℕ) (x : StobjList ℕ) (old new : Field) → part_at ns k f ≡ Some (Own old) → shown new x
     → Holds (with_part k f (Own new) ns) (record kept { roots = with_list_at (below (place_at kept.places k) (f ∷ [])) x kept.roots })
 write_one ns kept h k f x old new at e = part_written shown ns (with_part k f (Own new) ns) kept h k f [] old new x at (λ l g. e) (with_changed ns k f (Own old) (Own new) at)
 
 write_items : {X : Type 0} (g : X → StobjList ℕ) (xs : List X) (v : X) (ns : Nodes) (kept : Kept) (h : Holds ns kept) (k f i : ℕ) (old new : Field) → part_at ns k f ≡ Some (Own old)
-    → list_of old ≡ items_of (map g xs) → items_of (map g (set xs i v)) ≡ list_of new → Holds (with_part k f (Own new) ns) (record kept { roots = with_list_at (below (place_at kept.places k) (f ∷ i ∷ [])) (g v) kept.roots })
+    → ((l : StobjList ℕ) → shown old l → l ≡ items_of (map g xs)) → ((l : StobjList ℕ) → l ≡ items_of (map g (set xs i v)) → shown new l) → Holds (with_part k f (Own new) ns) (record kept { roots = with_list_at (below (place_at kept.places k) (f ∷ i ∷ [])) (g v) kept.roots })
 write_items g xs v ns kept h k f i old new at d e = part_written shown ns (with_part k f (Own new) ns) kept h k f (i ∷ []) old new (g v) at
-    (λ l q. ap (with_item i (g v)) (q ∙ d) ∙ (set_of g xs i v ∙ e)) (with_changed ns k f (Own old) (Own new) at)
+    (λ l q. e (with_item i (g v) l) (ap (with_item i (g v)) (d l q) ∙ set_of g xs i v)) (with_changed ns k f (Own old) (Own new) at)
 
 pub write_part : (ns : Nodes) (kept : Kept) (h : Holds ns kept) (k f i : ℕ) (v : ℤ) (p : Part Field) → part_at ns k f ≡ Some p → IsElement p i
     → Holds (with_part k f (with_element p i v) ns) (record kept { roots = with_list_at (place_in kept p k f i) (integer v) kept.roots })
 write_part ns kept h k f i v (Own (One w)) at is = write_one ns kept h k f (integer v) (One w) (One v) at refl
-write_part ns kept h k f i v (Own (Many kind x vs)) at is = write_items integer vs v ns kept h k f i (Many kind x vs) (Many kind x (set vs i v)) at refl refl
+write_part ns kept h k f i v (Own (Many kind x vs)) at is = write_items integer vs v ns kept h k f i (Many kind x vs) (Many kind x (set vs i v)) at (λ l e. e) (λ l e. e)
 write_part ns kept h k f i v (Own (Any o)) at is = absurd is
 write_part ns kept h k f i v (Own (Anys x os)) at is = absurd is
+write_part ns kept h k f i v (Own (Table cs)) at is = absurd is
 write_part ns kept h k f i v (Child c) at is = absurd is
 write_part ns kept h k f i v (Children cs) at is = absurd is
 
@@ -126,7 +130,8 @@ pub write_held : (ns : Nodes) (kept : Kept) (h : Holds ns kept) (k f i : ℕ) (v
 write_held ns kept h k f i v (Own (One w)) at is = absurd is
 write_held ns kept h k f i v (Own (Many kind x vs)) at is = absurd is
 write_held ns kept h k f i v (Own (Any o)) at is = write_one ns kept h k f (plain v) (Any o) (Any v) at refl
-write_held ns kept h k f i v (Own (Anys x os)) at is = write_items plain os v ns kept h k f i (Anys x os) (Anys x (set os i v)) at refl refl
+write_held ns kept h k f i v (Own (Anys x os)) at is = write_items plain os v ns kept h k f i (Anys x os) (Anys x (set os i v)) at (λ l e. e) (λ l e. e)
+write_held ns kept h k f i v (Own (Table cs)) at is = absurd is
 write_held ns kept h k f i v (Child c) at is = absurd is
 write_held ns kept h k f i v (Children cs) at is = absurd is
 
@@ -135,6 +140,7 @@ measure_part ns kept h k f (Own (One w)) at is = absurd is
 measure_part ns kept h k f (Own (Many kind x vs)) at is = ap size (h.shows k f (Own (Many kind x vs)) at) ∙ size_of integer vs
 measure_part ns kept h k f (Own (Any o)) at is = absurd is
 measure_part ns kept h k f (Own (Anys x os)) at is = ap size (h.shows k f (Own (Anys x os)) at) ∙ size_of plain os
+measure_part ns kept h k f (Own (Table cs)) at is = absurd is
 measure_part ns kept h k f (Child c) at is = absurd is
 measure_part ns kept h k f (Children cs) at is = size_spine (length cs) (list_at kept.roots (field_at kept.places k f)) (h.shows k f (Children cs) at).0
 
@@ -146,19 +152,20 @@ lend_part ns kept h k f i c (Children cs) at e = let s = (h.shows k f (Children 
     (s.1 ∙ below_both (place_at kept.places k) (f ∷ []) (i ∷ []), s.0)
 
 size_items : {X : Type 0} (g : X → StobjList ℕ) (xs : List X) (fill : X) (ns : Nodes) (kept : Kept) (h : Holds ns kept) (k f m : ℕ) (old new : Field) → part_at ns k f ≡ Some (Own old)
-    → list_of old ≡ items_of (map g xs) → items_of (map g (take m xs ++ replicate (m - length xs) fill)) ≡ list_of new
+    → ((l : StobjList ℕ) → shown old l → l ≡ items_of (map g xs)) → ((l : StobjList ℕ) → l ≡ items_of (map g (take m xs ++ replicate (m - length xs) fill)) → shown new l)
     → Holds (with_part k f (Own new) ns) (with_field k f (resized m (g fill) (list_at kept.roots (field_at kept.places k f))) kept)
 size_items g xs fill ns kept h k f m old new at d e =
     written shown ns (with_part k f (Own new) ns) kept h k f (Own old) new (resized m (g fill) (list_at kept.roots (field_at kept.places k f))) at tt
-    (ap (resized m (g fill)) (h.shows k f (Own old) at ∙ d) ∙ (sym (sized_of g m xs fill) ∙ e)) (with_changed ns k f (Own old) (Own new) at)
+    (e (resized m (g fill) (list_at kept.roots (field_at kept.places k f))) (ap (resized m (g fill)) (d (list_at kept.roots (field_at kept.places k f)) (h.shows k f (Own old) at)) ∙ sym (sized_of g m xs fill))) (with_changed ns k f (Own old) (Own new) at)
 
 pub resize_part : (hs : Objects) (ns : Nodes) (kept : Kept) (h : Holds ns kept) (k f m : ℕ) (p : Part Field) → part_at ns k f ≡ Some p → IsSized p
     → Holds (with_part k f (sized hs p m) ns) (with_field k f (resized m (filling hs p) (list_at kept.roots (field_at kept.places k f))) kept)
 resize_part hs ns kept h k f m (Own (One w)) at is = absurd is
-resize_part hs ns kept h k f m (Own (Many kind x vs)) at is = size_items integer vs x ns kept h k f m (Many kind x vs) (Many kind x (take m vs ++ replicate (m - length vs) x)) at refl refl
+resize_part hs ns kept h k f m (Own (Many kind x vs)) at is = size_items integer vs x ns kept h k f m (Many kind x vs) (Many kind x (take m vs ++ replicate (m - length vs) x)) at (λ l e. e) (λ l e. e)
 resize_part hs ns kept h k f m (Own (Any o)) at is = absurd is
 resize_part hs ns kept h k f m (Own (Anys x os)) at is =
-    size_items plain os (object_of hs x) ns kept h k f m (Anys x os) (Anys x (take m os ++ replicate (m - length os) (object_of hs x))) at refl refl
+    size_items plain os (object_of hs x) ns kept h k f m (Anys x os) (Anys x (take m os ++ replicate (m - length os) (object_of hs x))) at (λ l e. e) (λ l e. e)
+resize_part hs ns kept h k f m (Own (Table cs)) at is = absurd is
 resize_part hs ns kept h k f m (Child x) at is = absurd is
 resize_part hs ns kept h k f m (Children xs) at is = absurd is
 
@@ -199,11 +206,30 @@ follow_changed layouts ns after k f old new at c same h = record {
         subst (λ (i : ℕ). Goal i g p) (sym a) (subst (λ (i : ℕ). Goal k i p) (sym b)
         (subst (Goal k f) (some_same (sym c.changed ∙ (ap (λ (i : ℕ). part_at after i f) (sym a) ∙ (ap (λ (i : ℕ). part_at after j i) (sym b) ∙ e)))) here))
 
+element_table : (p : Part Field) (i : ℕ) (v : ℤ) → table_in (with_element p i v) ≡ table_in p
+element_table (Own (One w)) i v = refl
+element_table (Own (Many kind x vs)) i v = refl
+element_table (Own (Any o)) i v = refl
+element_table (Own (Anys x os)) i v = refl
+element_table (Own (Table cs)) i v = refl
+element_table (Child c) i v = refl
+element_table (Children cs) i v = refl
+
+held_table : (p : Part Field) (i : ℕ) (v : Object ℕ) → table_in (with_held p i v) ≡ table_in p
+held_table (Own (One w)) i v = refl
+held_table (Own (Many kind x vs)) i v = refl
+held_table (Own (Any o)) i v = refl
+held_table (Own (Anys x os)) i v = refl
+held_table (Own (Table cs)) i v = refl
+held_table (Child c) i v = refl
+held_table (Children cs) i v = refl
+
 element_matches : (ns : Nodes) (k : ℕ) (field : LayoutField) (p : Part Field) (i : ℕ) (v : ℤ) → Matches ns k field p → Matches ns k field (with_element p i v)
 element_matches ns k (fields.Scalar kind w) (Own (One x)) i v m = m
 element_matches ns k (fields.Scalar kind w) (Own (Many q x vs)) i v m = m
 element_matches ns k (fields.Scalar kind w) (Own (Any o)) i v m = m
 element_matches ns k (fields.Scalar kind w) (Own (Anys x os)) i v m = m
+element_matches ns k (fields.Scalar kind w) (Own (Table cs)) i v m = m
 element_matches ns k (fields.Scalar kind w) (Child c) i v m = m
 element_matches ns k (fields.Scalar kind w) (Children cs) i v m = m
 element_matches ns k (fields.Array kind w n r) (Own (One x)) i v m = m
@@ -211,9 +237,10 @@ element_matches ns k (fields.Array kind w n r) (Own (Many q x vs)) i v m =
     (m.0, m.1, subst (λ (j : ℕ). j < 2 ^ 32) (sym (length-set vs i v)) m.2, λ e. length-set vs i v ∙ m.3 e, m.4)
 element_matches ns k (fields.Array kind w n r) (Own (Any o)) i v m = m
 element_matches ns k (fields.Array kind w n r) (Own (Anys x os)) i v m = m
+element_matches ns k (fields.Array kind w n r) (Own (Table cs)) i v m = m
 element_matches ns k (fields.Array kind w n r) (Child c) i v m = m
 element_matches ns k (fields.Array kind w n r) (Children cs) i v m = m
-element_matches ns k (fields.Hash test) p i v m = absurd m
+element_matches ns k (fields.Hash test) p i v m = subst IsSome (sym (element_table p i v)) m
 element_matches ns k (fields.Child id) (Own o) i v m = absurd m
 element_matches ns k (fields.Child id) (Child c) i v m = m
 element_matches ns k (fields.Child id) (Children cs) i v m = m
@@ -226,6 +253,7 @@ held_matches ns k (fields.Scalar kind w) (Own (One x)) i v m = m
 held_matches ns k (fields.Scalar kind w) (Own (Many q x vs)) i v m = m
 held_matches ns k (fields.Scalar kind w) (Own (Any o)) i v m = m
 held_matches ns k (fields.Scalar kind w) (Own (Anys x os)) i v m = m
+held_matches ns k (fields.Scalar kind w) (Own (Table cs)) i v m = m
 held_matches ns k (fields.Scalar kind w) (Child c) i v m = m
 held_matches ns k (fields.Scalar kind w) (Children cs) i v m = m
 held_matches ns k (fields.Array kind w n r) (Own (One x)) i v m = m
@@ -233,9 +261,10 @@ held_matches ns k (fields.Array kind w n r) (Own (Many q x vs)) i v m = m
 held_matches ns k (fields.Array kind w n r) (Own (Any o)) i v m = m
 held_matches ns k (fields.Array kind w n r) (Own (Anys x os)) i v m =
     (m.0, m.1, subst (λ (j : ℕ). j < 2 ^ 32) (sym (length-set os i v)) m.2, λ e. length-set os i v ∙ m.3 e)
+held_matches ns k (fields.Array kind w n r) (Own (Table cs)) i v m = m
 held_matches ns k (fields.Array kind w n r) (Child c) i v m = m
 held_matches ns k (fields.Array kind w n r) (Children cs) i v m = m
-held_matches ns k (fields.Hash test) p i v m = absurd m
+held_matches ns k (fields.Hash test) p i v m = subst IsSome (sym (held_table p i v)) m
 held_matches ns k (fields.Child id) (Own o) i v m = absurd m
 held_matches ns k (fields.Child id) (Child c) i v m = m
 held_matches ns k (fields.Child id) (Children cs) i v m = m
@@ -259,6 +288,7 @@ sized_matches hs ns k kind w n m (Own (One x)) u h = h
 sized_matches hs ns k kind w n m (Own (Many q x vs)) u h = (h.0, h.1, subst (λ (j : ℕ). j < 2 ^ 32) (sym (length_sized integer vs m x)) u, λ e. absurd (true_false e), h.4)
 sized_matches hs ns k kind w n m (Own (Any o)) u h = h
 sized_matches hs ns k kind w n m (Own (Anys x os)) u h = (h.0, h.1, subst (λ (j : ℕ). j < 2 ^ 32) (sym (length_sized plain os m (object_of hs x))) u, λ e. absurd (true_false e))
+sized_matches hs ns k kind w n m (Own (Table cs)) u h = h
 sized_matches hs ns k kind w n m (Child c) u h = h
 sized_matches hs ns k kind w n m (Children cs) u h = h
 

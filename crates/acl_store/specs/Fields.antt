@@ -1,22 +1,25 @@
 -- What the fields of an object are that have no node, and which lists they show.
-use Rattle.std.specs.Prelude.{◌≡◌, ℕ, ℤ, ◌<◌, ◌-◌, ◌≤ℤ◌, ◌<ℤ◌, ◌^◌, List, ◌++◌, map, length, take, replicate, slice_set, get_or, pos, negsuc}
+use Rattle.std.specs.Prelude.{◌≡◌, ℕ, ℤ, ◌<◌, ◌-◌, ◌≤ℤ◌, ◌<ℤ◌, ◌^◌, List, ◌++◌, map, length, take, replicate, slice_set, get_or, pos, negsuc, Option, Some, None}
 use Rattle.acl_base.specs.declared.layout.Kind.{Kind}
 use Rattle.acl_base.specs.declared.layout.Kind.TheVariants.{Byte, I32, I64, General}
 use Rattle.acl_base.specs.declared.Word.{Word}
 use Rattle.acl_base.specs.declared.Word.TheVariants.{Small, Big, Sym, Str, Cons}
 use Rattle.acl_heap.specs.Objects.{Objects, object_of, nothing, Lies}
 use Rattle.model_objects.specs.Object.{Object, Integer}
-use Rattle.model_lists.specs.Lists.{StobjList, Value, End}
+use Rattle.model_prims.specs.Kinds.{by_number}
+use Rattle.model_lists.specs.Lists.{StobjList, Value, Pairs, End, value_at}
 use Rattle.acl_nodes.specs.Kept.{items_of}
 use Rattle.acl_nodes.specs.Nodes.{Part, Own, Child, Children}
+use Rattle.acl_maps.specs.Cells.{Cells, pairs_in, found_in}
 
 -- one integer, or an array of them: their kind, what new ones begin as, and the elements; or one object of any kind, or an array
--- of them: the word of what new ones begin as, and the elements
+-- of them: the word of what new ones begin as, and the elements; or a hash field: the cells of its keys
 pub data Field : Type 0 where
   One : ℤ → Field
   Many : Kind → ℤ → List ℤ → Field
   Any : Object ℕ → Field
   Anys : Word → List (Object ℕ) → Field
+  Table : List (Object ℕ × Object ℕ) → Field
 
 abbrev pub integer : ℤ → StobjList ℕ
 integer v = Value (Integer v)
@@ -24,15 +27,41 @@ integer v = Value (Integer v)
 abbrev pub plain : Object ℕ → StobjList ℕ
 plain o = Value o
 
--- the list of a field
+-- ---- hash fields
+
+-- a list of a hash field: each key finds there what it finds in the cells
+pub record IsTable (cs : Cells) (l : StobjList ℕ) : Type 0 where
+  pub pairs : List (Object ℕ × Object ℕ)
+  pub is : l ≡ Pairs pairs
+  pub finds : (k : Object ℕ) → value_at by_number k pairs ≡ found_in k cs
+
+-- the cells of a hash field
+abbrev pub table_in : Part Field → Option Cells
+table_in (Own (One v)) = None
+table_in (Own (Many kind initial vs)) = None
+table_in (Own (Any o)) = None
+table_in (Own (Anys initial os)) = None
+table_in (Own (Table cs)) = Some cs
+table_in (Child c) = None
+table_in (Children cs) = None
+
+-- ---- lists
+
+-- a list of a field
 abbrev pub list_of : Field → StobjList ℕ
 list_of (One v) = integer v
 list_of (Many kind initial vs) = items_of (map integer vs)
 list_of (Any o) = plain o
 list_of (Anys initial os) = items_of (map plain os)
+list_of (Table cs) = Pairs (pairs_in cs)
 
+-- the field shows the list
 abbrev pub shown : Field → StobjList ℕ → Type 0
-shown o l = l ≡ list_of o
+shown (One v) l = l ≡ integer v
+shown (Many kind initial vs) l = l ≡ items_of (map integer vs)
+shown (Any o) l = l ≡ plain o
+shown (Anys initial os) l = l ≡ items_of (map plain os)
+shown (Table cs) l = IsTable cs l
 
 -- ---- words
 
@@ -65,6 +94,7 @@ IsElement (Own (One v)) i = i ≡ 0
 IsElement (Own (Many kind initial vs)) i = i < length vs
 IsElement (Own (Any o)) i = ⊥
 IsElement (Own (Anys initial os)) i = ⊥
+IsElement (Own (Table cs)) i = ⊥
 IsElement (Child c) i = ⊥
 IsElement (Children cs) i = ⊥
 
@@ -73,6 +103,7 @@ element (Own (One v)) i = v
 element (Own (Many kind initial vs)) i = get_or vs i (pos 0)
 element (Own (Any o)) i = pos 0
 element (Own (Anys initial os)) i = pos 0
+element (Own (Table cs)) i = pos 0
 element (Child c) i = pos 0
 element (Children cs) i = pos 0
 
@@ -82,6 +113,7 @@ IsKept (Own (One v)) new = Unit {0}
 IsKept (Own (Many kind initial vs)) new = InRange kind new
 IsKept (Own (Any o)) new = ⊥
 IsKept (Own (Anys initial os)) new = ⊥
+IsKept (Own (Table cs)) new = ⊥
 IsKept (Child c) new = ⊥
 IsKept (Children cs) new = ⊥
 
@@ -90,6 +122,7 @@ with_element (Own (One v)) i new = Own (One new)
 with_element (Own (Many kind initial vs)) i new = Own (Many kind initial (slice_set vs i new))
 with_element (Own (Any o)) i new = Own (Any o)
 with_element (Own (Anys initial os)) i new = Own (Anys initial os)
+with_element (Own (Table cs)) i new = Own (Table cs)
 with_element (Child c) i new = Child c
 with_element (Children cs) i new = Children cs
 
@@ -101,6 +134,7 @@ IsHeld (Own (One v)) i = ⊥
 IsHeld (Own (Many kind initial vs)) i = ⊥
 IsHeld (Own (Any o)) i = i ≡ 0
 IsHeld (Own (Anys initial os)) i = i < length os
+IsHeld (Own (Table cs)) i = ⊥
 IsHeld (Child c) i = ⊥
 IsHeld (Children cs) i = ⊥
 
@@ -109,6 +143,7 @@ held (Own (One v)) i = nothing
 held (Own (Many kind initial vs)) i = nothing
 held (Own (Any o)) i = o
 held (Own (Anys initial os)) i = get_or os i nothing
+held (Own (Table cs)) i = nothing
 held (Child c) i = nothing
 held (Children cs) i = nothing
 
@@ -117,23 +152,26 @@ with_held (Own (One v)) i new = Own (One v)
 with_held (Own (Many kind initial vs)) i new = Own (Many kind initial vs)
 with_held (Own (Any o)) i new = Own (Any new)
 with_held (Own (Anys initial os)) i new = Own (Anys initial (slice_set os i new))
+with_held (Own (Table cs)) i new = Own (Table cs)
 with_held (Child c) i new = Child c
 with_held (Children cs) i new = Children cs
 
 -- the list of what is there at an index, an integer or another object
-abbrev pub value_at : Part Field → ℕ → StobjList ℕ
-value_at (Own (One v)) i = integer v
-value_at (Own (Many kind initial vs)) i = integer (get_or vs i (pos 0))
-value_at (Own (Any o)) i = plain o
-value_at (Own (Anys initial os)) i = plain (get_or os i nothing)
-value_at (Child c) i = End
-value_at (Children cs) i = End
+abbrev pub value_in : Part Field → ℕ → StobjList ℕ
+value_in (Own (One v)) i = integer v
+value_in (Own (Many kind initial vs)) i = integer (get_or vs i (pos 0))
+value_in (Own (Any o)) i = plain o
+value_in (Own (Anys initial os)) i = plain (get_or os i nothing)
+value_in (Own (Table cs)) i = End
+value_in (Child c) i = End
+value_in (Children cs) i = End
 
 abbrev pub HasValue : Part Field → ℕ → Type 0
 HasValue (Own (One v)) i = i ≡ 0
 HasValue (Own (Many kind initial vs)) i = i < length vs
 HasValue (Own (Any o)) i = i ≡ 0
 HasValue (Own (Anys initial os)) i = i < length os
+HasValue (Own (Table cs)) i = ⊥
 HasValue (Child c) i = ⊥
 HasValue (Children cs) i = ⊥
 
@@ -144,6 +182,7 @@ IsSized (Own (One v)) = ⊥
 IsSized (Own (Many kind initial vs)) = Unit {0}
 IsSized (Own (Any o)) = ⊥
 IsSized (Own (Anys initial os)) = Unit {0}
+IsSized (Own (Table cs)) = ⊥
 IsSized (Child c) = ⊥
 IsSized (Children cs) = ⊥
 
@@ -153,6 +192,7 @@ IsFilled h (Own (One v)) = Unit {0}
 IsFilled h (Own (Many kind initial vs)) = Unit {0}
 IsFilled h (Own (Any o)) = Unit {0}
 IsFilled h (Own (Anys initial os)) = Lies h initial
+IsFilled h (Own (Table cs)) = Unit {0}
 IsFilled h (Child c) = Unit {0}
 IsFilled h (Children cs) = Unit {0}
 
@@ -162,6 +202,7 @@ sized h (Own (One v)) n = Own (One v)
 sized h (Own (Many kind initial vs)) n = Own (Many kind initial (take n vs ++ replicate (n - length vs) initial))
 sized h (Own (Any o)) n = Own (Any o)
 sized h (Own (Anys initial os)) n = Own (Anys initial (take n os ++ replicate (n - length os) (object_of h initial)))
+sized h (Own (Table cs)) n = Own (Table cs)
 sized h (Child c) n = Child c
 sized h (Children cs) n = Children cs
 
@@ -171,6 +212,7 @@ filling h (Own (One v)) = integer v
 filling h (Own (Many kind initial vs)) = integer initial
 filling h (Own (Any o)) = plain o
 filling h (Own (Anys initial os)) = plain (object_of h initial)
+filling h (Own (Table cs)) = integer (pos 0)
 filling h (Child c) = integer (pos 0)
 filling h (Children cs) = integer (pos 0)
 
@@ -180,6 +222,7 @@ HasLength (Own (One v)) = ⊥
 HasLength (Own (Many kind initial vs)) = length vs < 2 ^ 32
 HasLength (Own (Any o)) = ⊥
 HasLength (Own (Anys initial os)) = length os < 2 ^ 32
+HasLength (Own (Table cs)) = ⊥
 HasLength (Child c) = ⊥
 HasLength (Children cs) = length cs < 2 ^ 32
 
@@ -188,5 +231,6 @@ length_of (Own (One v)) = 0
 length_of (Own (Many kind initial vs)) = length vs
 length_of (Own (Any o)) = 0
 length_of (Own (Anys initial os)) = length os
+length_of (Own (Table cs)) = 0
 length_of (Child c) = 0
 length_of (Children cs) = length cs

@@ -1,55 +1,82 @@
 -- What a journal notes of fields, and what is remembered by it.
-use Rattle.std.specs.Prelude.{◌≡◌, ◌⊎◌, ℕ, ℤ, ◌<◌, ◌≤◌, List, [], ◌∷◌, ◌++◌, map, length, take, Option, Some, None, IsSomeAnd, IfSome}
+use Rattle.std.specs.Prelude.{◌≡◌, ◌⊎◌, ℕ, ℤ, ◌<◌, ◌≤◌, List, [], ◌∷◌, ◌++◌, length, take, pos, Option, Some, None, IsSomeAnd, IfSome, option_map}
 use Rattle.acl_base.specs.declared.layout.Layout.{Layout}
-use Rattle.acl_heap.specs.Objects.{Objects}
+use Rattle.acl_heap.specs.Objects.{Objects, nothing}
 use Rattle.model_objects.specs.Object.{Object}
-use Rattle.model_lists.specs.Lists.{StobjList, End, resized}
+use Rattle.model_lists.specs.Lists.{StobjList, resized}
 use Rattle.model_eval.specs.PlacesKeeping.{list_at, with_list_at}
 use Rattle.acl_nodes.specs.Kept.{Kept, place_at, field_at, with_field, IsRooted}
 use Rattle.acl_nodes.specs.Making.{IsCreated}
-use Rattle.acl_nodes.specs.Nodes.{Part, Own, Child, Children, part_at, with_part, IsOwn}
+use Rattle.acl_nodes.specs.Nodes.{Part, Own, Child, Children, part_at, layout_at, width, with_part, IsOwn}
 use Rattle.acl_nodes.specs.Notes as notes
-use Rattle.acl_nodes.specs.Notes.{Note, Among}
-use Rattle.acl_store.specs.Fields.{Field, shown, list_of, integer, plain, IsElement, IsKept, IsHeld, IsSized, with_element, with_held, value_at, filling}
+use Rattle.acl_nodes.specs.Notes.{Note}
+use Rattle.acl_store.specs.Fields.{Field, One, Many, Any, Anys, Table, IsTable, table_in, shown, integer, plain, IsElement, IsKept, IsHeld, IsSized, with_element, with_held, value_in, filling}
+use Rattle.acl_maps.specs.Cells.{Cells, with_cell, IsSuited}
 use Rattle.acl_store.specs.Parts.{part_of, path_in}
 use Rattle.acl_store.specs.Calls.{Nodes, Holds, place_in}
 use Rattle.acl_store.specs.Layouts.{AreBorn}
 use Rattle.acl_store.specs.declared.notes.Old.{Old}
 use Rattle.acl_store.specs.declared.notes.OldPart.{OldPart}
-use Rattle.acl_store.specs.declared.notes.OldPart.TheVariants.{Element, Held, Whole}
+use Rattle.acl_store.specs.declared.notes.OldPart.TheVariants.{Element, Held, Entry, Whole}
 
 -- ---- one note
+
+-- the field with another cell for a key, where it is a hash field
+abbrev pub retabled : Option Cells → Object ℕ × Option (Object ℕ) → Part Field → Part Field
+retabled None h p = p
+retabled (Some cs) h p = Own (Table (with_cell h.0 h.1 cs))
 
 -- the field once the note is put back
 abbrev pub back : OldPart → Part Field → Part Field
 back (Element i v) p = with_element p i v
 back (Held i o) p = with_held p i o
+back (Entry h) p = retabled (table_in p) h p
 back (Whole s) p = part_of s
 
 abbrev pub path_noted : OldPart → ℕ → List ℕ
 path_noted (Element i v) f = f ∷ i ∷ []
 path_noted (Held i o) f = f ∷ i ∷ []
+path_noted (Entry h) f = f ∷ []
 path_noted (Whole s) f = f ∷ []
 
--- the list of a field of a node's own
-abbrev pub own_list : Part Field → StobjList ℕ
-own_list (Own o) = list_of o
-own_list (Child c) = End
-own_list (Children cs) = End
+-- a field of a node's own shows the list
+abbrev pub ShowsOwn : Part Field → StobjList ℕ → Type 0
+ShowsOwn (Own o) l = shown o l
+ShowsOwn (Child c) l = ⊥
+ShowsOwn (Children cs) l = ⊥
 
-abbrev pub list_noted : OldPart → StobjList ℕ
-list_noted (Element i v) = integer v
-list_noted (Held i o) = plain o
-list_noted (Whole s) = own_list (part_of s)
+-- the list is what stands at the place of the note, once it is put back into the field
+abbrev pub Restored : OldPart → Part Field → StobjList ℕ → Type 0
+Restored (Element i v) p l = l ≡ integer v
+Restored (Held i o) p l = l ≡ plain o
+Restored (Entry h) p l = IfSome (table_in p) (λ cs. IsTable (with_cell h.0 h.1 cs) l)
+Restored (Whole s) p l = ShowsOwn (part_of s) l
 
-abbrev pub note_of : Old → Note
-note_of o = record { node = o.node; path = path_noted o.part o.field; list = list_noted o.part }
+abbrev pub note_for : Old → StobjList ℕ → Note
+note_for o l = record { node = o.node; path = path_noted o.part o.field; list = l }
+
+-- notes with their lists
+abbrev pub notes_with : List Old → List (StobjList ℕ) → List Note
+notes_with [] ls = []
+notes_with (o ∷ os) [] = []
+notes_with (o ∷ os) (l ∷ ls) = note_for o l ∷ notes_with os ls
+
+-- a field without its values
+abbrev pub bare : Part Field → Part Field
+bare (Own (One v)) = Own (One (pos 0))
+bare (Own (Many kind x vs)) = Own (Many kind x [])
+bare (Own (Any o)) = Own (Any nothing)
+bare (Own (Anys x os)) = Own (Anys x [])
+bare (Own (Table cs)) = Own (Table [])
+bare (Child c) = Child c
+bare (Children cs) = Children cs
 
 -- it may be put back into the field
 abbrev pub SuitsPart : OldPart → Part Field → Type 0
 SuitsPart (Element i v) p = IsSized p × IsElement p i × IsKept p v
 SuitsPart (Held i o) p = IsSized p × IsHeld p i
-SuitsPart (Whole s) p = IsOwn p × IsOwn (part_of s)
+SuitsPart (Entry h) p = IsSomeAnd (table_in p) (λ cs. IsSuited h cs)
+SuitsPart (Whole s) p = IsOwn p × IsOwn (part_of s) × (bare (part_of s) ≡ bare p)
 
 abbrev pub Suits : Nodes → Old → Type 0
 Suits ns o = IsSomeAnd (part_at ns o.node o.field) (SuitsPart o.part)
@@ -67,17 +94,25 @@ abbrev pub Fit : Nodes → List Old → Type 0
 Fit ns [] = Unit {0}
 Fit ns (o ∷ os) = Suits ns o × Fit (put_back o ns) os
 
+-- these are the lists that the notes bring back, the first of the list first
+abbrev pub AreLists : Nodes → List Old → List (StobjList ℕ) → Type 0
+AreLists ns [] [] = Unit {0}
+AreLists ns [] (l ∷ ls) = ⊥
+AreLists ns (o ∷ os) [] = ⊥
+AreLists ns (o ∷ os) (l ∷ ls) = IfSome (part_at ns o.node o.field) (λ p. Restored o.part p l) × AreLists (put_back o ns) os ls
+
 -- it is a note of what is at this index, as it is
 pub record IsNote (q : OldPart) (p : Part Field) (i : ℕ) : Type 0 where
   pub suits : SuitsPart q p
   pub same : back q p ≡ p
   pub path : (f : ℕ) → path_noted q f ≡ path_in p f i
-  pub list : list_noted q ≡ value_at p i
+  pub shows : Restored q p (value_in p i)
 
 -- it is a note of the whole field, as it is
 abbrev pub IsWhole : OldPart → Part Field → Type 0
 IsWhole (Element i v) p = ⊥
 IsWhole (Held i o) p = ⊥
+IsWhole (Entry h) p = ⊥
 IsWhole (Whole s) p = part_of s ≡ p
 
 -- the whole field was noted, behind the others
@@ -102,11 +137,18 @@ pub record IsNotedAt (ns : Nodes) (n f i : ℕ) (olds news : List Old) : Type 0 
 pub record Remembers (ns : Nodes) (olds : List Old) (first : ℕ) (kept before : Kept) : Type 0 where
   pub holds : Holds ns kept
   pub fit : Fit ns olds
-  pub notes : notes.Remembers (map note_of olds) first (length ns) kept before
+  pub lists : List (StobjList ℕ)
+  pub restore : AreLists ns olds lists
+  pub notes : notes.Remembers (notes_with olds lists) first (length ns) kept before
+
+-- the note is one of these
+abbrev pub AmongOld : Old → List Old → Type 0
+AmongOld m [] = ⊥
+AmongOld m (o ∷ os) = (o ≡ m) ⊎ AmongOld m os
 
 -- the list was noted, or one that it is in, or the node is local
 abbrev pub MayBeWritten : List Old → ℕ → ℕ → List ℕ → Type 0
-MayBeWritten olds first n path = ((m : Note) × Among m (map note_of olds) × (m.node ≡ n) × ((rest : List ℕ) × (path ≡ m.path ++ rest))) ⊎ (first ≤ n)
+MayBeWritten olds first n path = ((m : Old) × AmongOld m olds × (m.node ≡ n) × ((rest : List ℕ) × (path ≡ path_noted m.part m.field ++ rest))) ⊎ (first ≤ n)
 
 unfoldable pub Begins : Nodes → List Old → ℕ → Type 0
 Begins ns olds first = (kept : Kept) → Holds ns kept → Remembers ns olds first kept kept
@@ -115,9 +157,17 @@ Begins ns olds first = (kept : Kept) → Holds ns kept → Remembers ns olds fir
 unfoldable pub NoteRemembers : Nodes → List Old → ℕ → List Old → Type 0
 NoteRemembers ns olds first others = (kept before : Kept) → Remembers ns olds first kept before → Remembers ns others first kept before
 
+-- the nodes have the layouts, the children and the kinds of fields that they had
+pub record StayShaped (ns after : Nodes) : Type 0 where
+  pub counted : length after ≡ length ns
+  pub layouts : (k : ℕ) → layout_at after k ≡ layout_at ns k
+  pub widths : (k : ℕ) → width after k ≡ width ns k
+  pub fields : (k f : ℕ) → option_map bare (part_at after k f) ≡ option_map bare (part_at ns k f)
+
 -- some were put back
 pub record StepsBack (ns : Nodes) (olds : List Old) (after : Nodes) (others : List Old) : Type 0 where
   pub fits : Fit ns olds → Fit after others
+  pub stays : Fit ns olds → StayShaped ns after
   pub remembers : (first : ℕ) (kept before : Kept) → Remembers ns olds first kept before → (roots : List (StobjList ℕ)) × Remembers after others first (record kept { roots = roots }) before
 
 -- each node that there was stands for what it stood for

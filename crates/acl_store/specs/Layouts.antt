@@ -1,5 +1,5 @@
 -- Layouts: which of them a store keeps, what a new object begins as, and that nodes are as their layouts say.
-use Rattle.std.specs.Prelude.{◌≡◌, ◌≢◌, ℕ, zero, suc, ◌<◌, ◌^◌, List, [], ◌∷◌, map, length, replicate, slice_get, Option, Some, None, Bool, false}
+use Rattle.std.specs.Prelude.{◌≡◌, ◌≢◌, ℕ, zero, suc, ◌<◌, ◌^◌, List, [], ◌∷◌, map, length, replicate, slice_get, Option, Some, None, IsSome, Bool, false}
 use Rattle.acl_base.specs.declared.layout.Field.{Field}
 use Rattle.acl_base.specs.declared.layout.Field.TheVariants as fields
 use Rattle.acl_base.specs.declared.layout.Kind.{Kind}
@@ -11,7 +11,7 @@ use Rattle.model_lists.specs.Lists.{StobjList, Value, Pairs}
 use Rattle.acl_nodes.specs.Kept.{items_of}
 use Rattle.acl_nodes.specs.Nodes.{Part, Own, Child, Children, Node, part_at, width, layout_at}
 use Rattle.acl_store.specs.Fields as kept
-use Rattle.acl_store.specs.Fields.{One, Many, Any, Anys, IsSmall, InRange, number_of}
+use Rattle.acl_store.specs.Fields.{One, Many, Any, Anys, Table, IsSmall, InRange, number_of, table_in}
 
 -- the word may be what a field of the kind begins as
 abbrev pub IsInitial : Objects → Kind → Word → Type 0
@@ -21,11 +21,11 @@ IsInitial h I64 w = IsSmall w × InRange I64 (number_of w)
 IsInitial h General w = Lies h w
 
 -- a field that a store keeps, in the layout of this number: its children have layouts of smaller numbers, its elements begin as
--- what is of its kind, and it is no hash field
+-- what is of its kind
 abbrev pub IsField : Objects → ℕ → Field → Type 0
 IsField h k (fields.Scalar kind w) = IsInitial h kind w
 IsField h k (fields.Array kind w n resizable) = IsInitial h kind w
-IsField h k (fields.Hash test) = ⊥
+IsField h k (fields.Hash test) = Unit {0}
 IsField h k (fields.Child c) = c.0 < k
 IsField h k (fields.Children c n) = c.0 < k
 
@@ -67,6 +67,7 @@ IsOne kind (Own (One v)) = kind ≢ General
 IsOne kind (Own (Many k initial vs)) = ⊥
 IsOne kind (Own (Any o)) = kind ≡ General
 IsOne kind (Own (Anys initial os)) = ⊥
+IsOne kind (Own (Table cs)) = ⊥
 IsOne kind (Child c) = ⊥
 IsOne kind (Children cs) = ⊥
 
@@ -76,6 +77,7 @@ IsArray kind w n resizable (Own (One v)) = ⊥
 IsArray kind w n resizable (Own (Many k initial vs)) = (k ≡ kind) × (initial ≡ number_of w) × (length vs < 2 ^ 32) × (resizable ≡ false → length vs ≡ n) × (kind ≢ General)
 IsArray kind w n resizable (Own (Any o)) = ⊥
 IsArray kind w n resizable (Own (Anys initial os)) = (kind ≡ General) × (initial ≡ w) × (length os < 2 ^ 32) × (resizable ≡ false → length os ≡ n)
+IsArray kind w n resizable (Own (Table cs)) = ⊥
 IsArray kind w n resizable (Child c) = ⊥
 IsArray kind w n resizable (Children cs) = ⊥
 
@@ -97,7 +99,7 @@ AreObjects nodes k id n (Children cs) = (length cs ≡ n) × ((i c : ℕ) → sl
 abbrev pub Matches : List (Node kept.Field) → ℕ → Field → Part kept.Field → Type 0
 Matches nodes k (fields.Scalar kind w) part = IsOne kind part
 Matches nodes k (fields.Array kind w n resizable) part = IsArray kind w n resizable part
-Matches nodes k (fields.Hash test) part = ⊥
+Matches nodes k (fields.Hash test) part = IsSome (table_in part)
 Matches nodes k (fields.Child c) part = IsStobj nodes k c.0 part
 Matches nodes k (fields.Children c n) part = AreObjects nodes k c.0 n part
 

@@ -6,3 +6,4 @@ pub mod Making
 pub mod Calls
 pub mod Laws
 pub mod Journals
+pub mod Tables

@@ -2,7 +2,7 @@
 use Rattle.std.specs.Prelude.{◌≡◌, ℕ, ◌<◌, List, [], ◌∷◌, map, length, slice_get, pos, Option, Some, None}
 use Rattle.acl_base.specs.declared.layout.Kind.TheVariants.{Byte, I32, I64}
 use Rattle.acl_nodes.specs.Nodes.{Part, Own, Child, Children}
-use Rattle.acl_store.specs.Fields.{Field, One, Many, Any, Anys}
+use Rattle.acl_store.specs.Fields.{Field, One, Many, Any, Anys, Table}
 use Rattle.acl_store.specs.declared.slot.Slot.{Slot}
 use Rattle.acl_store.specs.declared.slot.Slot.TheVariants as slots
 
@@ -14,6 +14,7 @@ part_of (slots.Ints a) = Own (Many I32 a.initial a.elements)
 part_of (slots.Longs a) = Own (Many I64 a.initial a.elements)
 part_of (slots.General o) = Own (Any o)
 part_of (slots.Generals a) = Own (Anys a.initial a.elements.items)
+part_of (slots.Table m) = Own (Table m)
 part_of (slots.Child c) = Child c
 part_of (slots.Children cs) = Children cs.items
 
@@ -36,5 +37,6 @@ path_in (Own (One v)) f i = f ∷ []
 path_in (Own (Many kind initial vs)) f i = f ∷ i ∷ []
 path_in (Own (Any o)) f i = f ∷ []
 path_in (Own (Anys initial os)) f i = f ∷ i ∷ []
+path_in (Own (Table cs)) f i = f ∷ []
 path_in (Child c) f i = f ∷ []
 path_in (Children cs) f i = f ∷ i ∷ []

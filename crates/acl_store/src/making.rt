@@ -11,6 +11,7 @@ use crate::node::Node;
 use crate::slot::{Array, Slot, number};
 use acl_base::{Field, Kind, Layout, LayoutId, Word};
 use acl_heap::Heap;
+use acl_maps::ObjectMap;
 use acl_owned::{ObjectArray, OwnedObject};
 use std::alloc::{AllocError, Global};
 
@@ -91,7 +92,10 @@ fn make_slot(
             let array = make_array(alloc, heap, kind, w, n)?;
             Ok(array)
         }
-        Field::Hash(_) => unreachable!(),
+        Field::Hash(_) => {
+            let map = ObjectMap::new(alloc);
+            Ok(Slot::Table(map))
+        }
         Field::Child(c) => {
             let child = make(nodes, alloc, heap, layouts, c.0 as usize)?;
             Ok(Slot::Child(child))

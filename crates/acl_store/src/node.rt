@@ -1,16 +1,21 @@
 //! Nodes: the fields of one object.
-ghost use Rattle.std.specs.Prelude.{◌≡◌, slice_get, slice_set, Some, IsSomeAnd, IfSome, IfOk, OnOk, OnErr};
+ghost use Rattle.std.specs.Prelude.{◌≡◌, [], slice_get, slice_set, Some, None, IsSome, IsSomeAnd, IfSome, IfOk, OnOk, OnErr};
 ghost use Rattle.acl_heap.specs.Objects.{Denotes, Extends};
-ghost use Rattle.acl_store.specs.Fields.{HasLength, IsElement, IsFilled, IsHeld, IsKept, IsSized, element, held, length_of, sized, with_element, with_held};
+ghost use Rattle.acl_store.specs.Fields.{HasLength, IsElement, IsFilled, IsHeld, IsKept, IsSized, element, held, length_of, sized, table_in, with_element, with_held};
 ghost use Rattle.acl_store.specs.Journals.{IsNote, SuitsPart, back};
 ghost use Rattle.acl_store.specs.Parts.{HasChild, child_of, part_of};
+ghost use Rattle.acl_maps.specs.Cells.{with_cell};
+ghost use Rattle.acl_store.specs.Tables.{Counts, FindsIn, GivesBack, IsChange, IsKnownTable, Lists, changed, tabled};
 ghost use Rattle.acl_store.specs.Views.{parts_of};
 
+use crate::change::Change;
 use crate::notes::OldPart;
 use crate::slot::Slot;
 use acl_base::{LayoutId, Word};
+use acl_hash::Key;
 use acl_heap::Heap;
 use acl_owned::OwnedObject;
+use acl_syms::Symbols;
 use std::alloc::{AllocError, Global};
 
 /// The fields of an object, and its layout.
@@ -122,6 +127,83 @@ impl Node {
         ensures { IfSome (slice_get self.now.slots.items field) (λ s. IsNote result (part_of s) index) }
     {
         self.slots[field].noted(index)
+    }
+
+    /// A copy of the value of a key in a heap, if it has one.
+    pub fn find(&self, field: usize, k: &Key, heap: &mut Heap) -> Result<Option<Word>, AllocError>
+        requires { IsSomeAnd (slice_get self.now.slots.items field) (λ s. IsSome (table_in (part_of s))) }
+        ensures grows { Extends heap.old heap.new }
+        ensures ok { IfOk result (λ r. IfSome (slice_get self.now.slots.items field) (λ s. FindsIn (part_of s) k.now heap.new r)) }
+    {
+        match self.slots[field].find(k, heap) {
+            Ok(found) => Ok(found),
+            Err(e) => Err(e),
+        }
+    }
+
+    /// Copies of the pairs of a hash field in a heap, in the total order of keys.
+    pub fn pairs(
+        &self,
+        alloc: Global,
+        field: usize,
+        heap: &mut Heap,
+        syms: &Symbols,
+    ) -> Result<Vec<(Word, Word)>, AllocError>
+        requires { IsSomeAnd (slice_get self.now.slots.items field) (λ s. IsKnownTable syms.now.symbols (part_of s)) }
+        ensures grows { Extends heap.old heap.new }
+        ensures ok { IfOk result (λ ws. IfSome (slice_get self.now.slots.items field) (λ s. Lists syms.now.symbols (part_of s) heap.new ws.items)) }
+        ensures refused { OnErr result (heap.new ≡ heap.old) }
+    {
+        match self.slots[field].pairs(alloc, heap, syms) {
+            Ok(pairs) => Ok(pairs),
+            Err(e) => Err(e),
+        }
+    }
+
+    /// How many keys of a hash field have a value.
+    pub fn count(&self, field: usize) -> u64
+        requires { IsSomeAnd (slice_get self.now.slots.items field) (λ s. IsSome (table_in (part_of s))) }
+        ensures { IfSome (slice_get self.now.slots.items field) (λ s. Counts (part_of s) result) }
+    {
+        self.slots[field].count()
+    }
+
+    /// Changes a hash field, with a note of what was there.
+    pub fn change(
+        &mut self,
+        alloc: Global,
+        field: usize,
+        change: Change,
+    ) -> Result<OldPart, AllocError>
+        requires table { IsSomeAnd (slice_get self.old.slots.items field) (λ s. IsSome (table_in (part_of s))) }
+        requires change { IsChange change }
+        ensures layout { self.new.layout ≡ self.old.layout }
+        ensures parts { OnOk result (IfSome (slice_get self.old.slots.items field) (λ s. parts_of self.new ≡ slice_set (parts_of self.old) field (tabled (changed change) (part_of s)))) }
+        ensures noted { IfOk result (λ q. IfSome (slice_get self.old.slots.items field) (λ s. GivesBack q (tabled (changed change) (part_of s)) (part_of s))) }
+        ensures refused { OnErr result (parts_of self.new ≡ parts_of self.old) }
+    {
+        match self.slots[field].change(alloc, change) {
+            Ok(part) => Ok(part),
+            Err(e) => Err(e),
+        }
+    }
+
+    /// Takes a key of a hash field and its value away.
+    pub fn remove(&mut self, field: usize, k: &Key)
+        requires { IsSomeAnd (slice_get self.old.slots.items field) (λ s. IsSome (table_in (part_of s))) }
+        ensures layout { self.new.layout ≡ self.old.layout }
+        ensures parts { IfSome (slice_get self.old.slots.items field) (λ s. parts_of self.new ≡ slice_set (parts_of self.old) field (tabled (with_cell k.now None) (part_of s))) }
+    {
+        self.slots[field].remove(k);
+    }
+
+    /// Takes all keys and values of a hash field away.
+    pub fn clear(&mut self, field: usize)
+        requires { IsSomeAnd (slice_get self.old.slots.items field) (λ s. IsSome (table_in (part_of s))) }
+        ensures layout { self.new.layout ≡ self.old.layout }
+        ensures parts { IfSome (slice_get self.old.slots.items field) (λ s. parts_of self.new ≡ slice_set (parts_of self.old) field (tabled (λ cs. []) (part_of s))) }
+    {
+        self.slots[field].clear();
     }
 
     /// Puts a note back.

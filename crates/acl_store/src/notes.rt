@@ -1,10 +1,12 @@
 //! What a journal notes.
-ghost use Rattle.std.specs.Prelude.{◌≡◌};
-ghost use Rattle.acl_store.specs.Fields.{IsElement, IsHeld, with_held};
-ghost use Rattle.acl_store.specs.Journals.{IsNote, SuitsPart, back};
+ghost use Rattle.std.specs.Prelude.{◌≡◌, IsSomeAnd};
+ghost use Rattle.acl_maps.specs.Cells.{IsSuited};
+ghost use Rattle.acl_store.specs.Fields.{IsElement, IsHeld, table_in, with_held};
+ghost use Rattle.acl_store.specs.Journals.{IsNote, SuitsPart, back, retabled};
 ghost use Rattle.acl_store.specs.Parts.{part_of};
 
 use crate::slot::Slot;
+use acl_maps::HeldPlace;
 use acl_owned::OwnedObject;
 use std::mem::replace;
 
@@ -15,6 +17,8 @@ pub enum OldPart {
     Element(usize, i64),
     /// The object of this index of an array.
     Held(usize, OwnedObject),
+    /// What stood at a key of a hash field.
+    Entry(HeldPlace),
     /// All of it.
     Whole(Slot),
 }
@@ -40,6 +44,7 @@ impl Slot {
             Slot::Longs(a) => OldPart::Element(index, a.elements.get(index)),
             Slot::General(_) => unreachable!(),
             Slot::Generals(_) => unreachable!(),
+            Slot::Table(_) => unreachable!(),
             Slot::Child(_) => unreachable!(),
             Slot::Children(_) => unreachable!(),
         }
@@ -59,6 +64,25 @@ impl Slot {
             Slot::Longs(_) => unreachable!(),
             Slot::General(old) => OldPart::Whole(Slot::General(replace(old, o))),
             Slot::Generals(a) => OldPart::Held(index, a.exchange(index, o)),
+            Slot::Table(_) => unreachable!(),
+            Slot::Child(_) => unreachable!(),
+            Slot::Children(_) => unreachable!(),
+        }
+    }
+
+    // Puts what stood at a key of a hash field back.
+    fn put_entry_back(&mut self, held: HeldPlace)
+        requires { IsSomeAnd (table_in (part_of self.old)) (λ cs. IsSuited held cs) }
+        ensures { part_of self.new ≡ retabled (table_in (part_of self.old)) held (part_of self.old) }
+    {
+        match self {
+            Slot::Scalar(_) => unreachable!(),
+            Slot::Bytes(_) => unreachable!(),
+            Slot::Ints(_) => unreachable!(),
+            Slot::Longs(_) => unreachable!(),
+            Slot::General(_) => unreachable!(),
+            Slot::Generals(_) => unreachable!(),
+            Slot::Table(m) => m.back(held),
             Slot::Child(_) => unreachable!(),
             Slot::Children(_) => unreachable!(),
         }
@@ -74,6 +98,7 @@ impl Slot {
             OldPart::Held(index, o) => {
                 let _new = self.exchange(index, o);
             }
+            OldPart::Entry(held) => self.put_entry_back(held),
             OldPart::Whole(slot) => *self = slot,
         }
     }

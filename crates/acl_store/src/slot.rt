@@ -6,6 +6,7 @@ ghost use Rattle.acl_store.specs.Parts.{HasChild, child_of, part_of};
 
 use acl_base::Word;
 use acl_heap::Heap;
+use acl_maps::ObjectMap;
 use acl_owned::{ObjectArray, OwnedObject};
 use acl_rawmem::RawArray;
 use std::alloc::{AllocError, Global};
@@ -33,6 +34,8 @@ pub enum Slot {
     General(OwnedObject),
     /// Objects of any kind.
     Generals(ObjectArray),
+    /// A hash field.
+    Table(ObjectMap),
     /// An object, by the number of its node.
     Child(usize),
     /// An array of objects.
@@ -121,6 +124,7 @@ impl Slot {
             Slot::Longs(a) => a.elements.get(index),
             Slot::General(_) => unreachable!(),
             Slot::Generals(_) => unreachable!(),
+            Slot::Table(_) => unreachable!(),
             Slot::Child(_) => unreachable!(),
             Slot::Children(_) => unreachable!(),
         }
@@ -139,6 +143,7 @@ impl Slot {
             Slot::Longs(a) => a.elements.set(index, value),
             Slot::General(_) => unreachable!(),
             Slot::Generals(_) => unreachable!(),
+            Slot::Table(_) => unreachable!(),
             Slot::Child(_) => unreachable!(),
             Slot::Children(_) => unreachable!(),
         }
@@ -159,6 +164,7 @@ impl Slot {
             Slot::Longs(a) => a.resize(length),
             Slot::General(_) => unreachable!(),
             Slot::Generals(a) => a.resize(alloc, heap, length),
+            Slot::Table(_) => unreachable!(),
             Slot::Child(_) => unreachable!(),
             Slot::Children(_) => unreachable!(),
         }
@@ -190,6 +196,7 @@ impl Slot {
                 let array = a.stretched(alloc, heap, length)?;
                 Ok(Slot::Generals(array))
             }
+            Slot::Table(_) => unreachable!(),
             Slot::Child(_) => unreachable!(),
             Slot::Children(_) => unreachable!(),
         }
@@ -221,6 +228,7 @@ impl Slot {
             Slot::Longs(a) => a.elements.len() as u32,
             Slot::General(_) => unreachable!(),
             Slot::Generals(a) => a.elements.len() as u32,
+            Slot::Table(_) => unreachable!(),
             Slot::Child(_) => unreachable!(),
             Slot::Children(cs) => cs.len() as u32,
         }
@@ -239,6 +247,7 @@ impl Slot {
             Slot::Longs(_) => unreachable!(),
             Slot::General(o) => o.copy_out(heap),
             Slot::Generals(a) => a.copy_out(index, heap),
+            Slot::Table(_) => unreachable!(),
             Slot::Child(_) => unreachable!(),
             Slot::Children(_) => unreachable!(),
         }
@@ -256,6 +265,7 @@ impl Slot {
             Slot::Longs(_) => unreachable!(),
             Slot::General(_) => unreachable!(),
             Slot::Generals(_) => unreachable!(),
+            Slot::Table(_) => unreachable!(),
             Slot::Child(c) => *c,
             Slot::Children(cs) => cs[index],
         }

@@ -6,7 +6,7 @@ ghost use Rattle.acl_nodes.specs.Making.{Extends};
 ghost use Rattle.acl_nodes.specs.Nodes.{part_at};
 ghost use Rattle.acl_store.specs.Calls.{Creates, Cuts, Holds, IsArray, IsGeneral, IsInline, IsMany, IsObjectPut, IsParent, IsPut, IsSizedTo, IsTyped, IsWord, Lends, Measures, Reads, ReadsObject, Resizes, StayTyped, StayTypedIf, Writes, WritesObject};
 ghost use Rattle.acl_store.specs.Fields.{number_of};
-ghost use Rattle.acl_store.specs.Journals.{Begins, CreateRemembers, CutRemembers, Fit, IsNote, IsNoted, IsNotedAt, MayBeWritten, NoteRemembers, ObjectRemembers, ResizeRemembers, Restores, StayWritable, StepsBack, WriteRemembers};
+ghost use Rattle.acl_store.specs.Journals.{Begins, CreateRemembers, CutRemembers, Fit, IsNote, IsNoted, IsNotedAt, MayBeWritten, NoteRemembers, ObjectRemembers, ResizeRemembers, Restores, StayShaped, StayWritable, StepsBack, WriteRemembers};
 ghost use Rattle.acl_store.specs.Layouts.{AreLayouts};
 ghost use Rattle.acl_store.specs.Parts.{path_in};
 ghost use Rattle.acl_store.specs.Views.{view};
@@ -25,9 +25,9 @@ use std::alloc::{AllocError, Global};
 /// Clauses see a store as its nodes, and say of any lists of roots and places that these hold which lists and places they hold afterwards.
 #[derive(Drop)]
 pub struct Store {
-    alloc: Global,
-    nodes: Vec<Node>,
-    notes: Vec<Old>,
+    pub(crate) alloc: Global,
+    pub(crate) nodes: Vec<Node>,
+    pub(crate) notes: Vec<Old>,
     first: usize,
     is_open: bool,
 }
@@ -103,7 +103,7 @@ impl Store {
         self.nodes[n.0 as usize].put(field as usize, index as usize, number(w));
     }
 
-    /// Makes a copy of the object in a field in the heap.
+    /// Makes a copy of the object in a field in the heap. What is refused leaves the heap as it was.
     pub fn read_general(
         &self,
         n: NodeId,
@@ -114,10 +114,15 @@ impl Store {
         requires { IsGeneral (view self.now.nodes.items) n.0 field index }
         ensures grows { objects.Extends heap.old heap.new }
         ensures ok { IfOk result (λ w. ReadsObject (view self.now.nodes.items) n.0 field index heap.new w) }
+        ensures refused { OnErr result (heap.new ≡ heap.old) }
     {
+        let mark = heap.mark();
         match self.nodes[n.0 as usize].copy_out(field as usize, index as usize, heap) {
             Ok(w) => Ok(w),
-            Err(e) => Err(e),
+            Err(e) => {
+                heap.reset(mark);
+                Err(e)
+            }
         }
     }
 
@@ -253,7 +258,7 @@ impl Store {
     }
 
     // Whether the journal is open, and the node is older than that.
-    fn is_remembered(&self, n: NodeId) -> bool
+    pub(crate) fn is_remembered(&self, n: NodeId) -> bool
         ensures open { result ≡ true → self.now.is_open ≡ true }
         ensures older { result ≡ true → n.0 < self.now.first }
         ensures local { result ≡ false → self.now.is_open ≡ true → self.now.first ≤ n.0 }
@@ -312,7 +317,7 @@ impl Store {
     }
 
     // Puts a note behind the others, for which there is room.
-    fn keep(&mut self, n: NodeId, field: u32, part: OldPart)
+    pub(crate) fn keep(&mut self, n: NodeId, field: u32, part: OldPart)
         requires { vec_len self.old.notes < vec_capacity self.old.notes }
         ensures noted { self.new.notes.items ≡ self.old.notes.items ++ record { node = n.0; field = field; part = part } ∷ [] }
         ensures nodes { self.new.nodes.items ≡ self.old.nodes.items }
@@ -426,11 +431,12 @@ impl Store {
     }
 
     /// Puts all that was noted back, the newest first, and closes the journal. It takes no memory.
-    #[tactic(auto, using(crate::proofs::JournalLemmas::steps_self, crate::proofs::JournalLemmas::steps_then, crate::proofs::JournalLemmas::restores_all))]
+    #[tactic(auto, using(crate::proofs::JournalLemmas::steps_self, crate::proofs::JournalLemmas::steps_then, crate::proofs::JournalLemmas::restores_all, crate::proofs::JournalLemmas::shape_kept))]
     pub fn abandon(&mut self)
         requires open { self.old.is_open ≡ true }
         requires fit { Fit (view self.old.nodes.items) (reverse self.old.notes.items) }
         ensures closed { self.new.is_open ≡ false }
+        ensures shaped { StayShaped (view self.old.nodes.items) (view self.new.nodes.items) }
         ensures restores { Restores (view self.old.nodes.items) (reverse self.old.notes.items) self.old.first (view self.new.nodes.items) }
     {
         while self.put_back_newest() {}

@@ -1,3 +1,5 @@
+pub mod ArmLemmas
+pub mod DepthLemmas
 pub mod FaultLemmas
 pub mod InLemmas
 pub mod LawLemmas
@@ -5,3 +7,4 @@ pub mod ParentLemmas
 pub mod PartLemmas
 pub mod RuleLemmas
 pub mod SizeLemmas
+pub mod WalkLemmas

@@ -19,22 +19,22 @@ use Rattle.acl_thread.specs.Sizes.{width_of, width_of_all, Fits, FitParts, FitBo
 
 -- ---- words
 
-if_reach : (a b c : Core) → core_reach (views.If a b c) ≡ max (core_reach a) (max (core_reach b) (core_reach c))
+pub if_reach : (a b c : Core) → core_reach (views.If a b c) ≡ max (core_reach a) (max (core_reach b) (core_reach c))
 if_reach a b c = ap core_reach (sym (variants.rolls-If a b c)) ∙ fold-roll-Core ℕ layer_reach (layer.If a b c)
 
-mv_reach : (parts : List Core) → core_reach (views.Mv parts) ≡ most (map core_reach parts)
+pub mv_reach : (parts : List Core) → core_reach (views.Mv parts) ≡ most (map core_reach parts)
 mv_reach parts = ap core_reach (sym (variants.rolls-Mv parts)) ∙ fold-roll-Core ℕ layer_reach (layer.Mv parts)
 
-mv_let_reach : (names : List SymId) (a b : Core) → core_reach (views.MvLet names a b) ≡ max (core_reach a) (core_reach b)
+pub mv_let_reach : (names : List SymId) (a b : Core) → core_reach (views.MvLet names a b) ≡ max (core_reach a) (core_reach b)
 mv_let_reach names a b = ap core_reach (sym (variants.rolls-MvLet names a b)) ∙ fold-roll-Core ℕ layer_reach (layer.MvLet names a b)
 
-with_local_reach : (stobj : SymId) (names : List SymId) (a b : Core) → core_reach (views.WithLocal stobj names a b) ≡ max (core_reach a) (core_reach b)
+pub with_local_reach : (stobj : SymId) (names : List SymId) (a b : Core) → core_reach (views.WithLocal stobj names a b) ≡ max (core_reach a) (core_reach b)
 with_local_reach stobj names a b = ap core_reach (sym (variants.rolls-WithLocal stobj names a b)) ∙ fold-roll-Core ℕ layer_reach (layer.WithLocal stobj names a b)
 
-must_be_equal_reach : (a b : Core) → core_reach (views.MustBeEqual a b) ≡ max (core_reach a) (core_reach b)
+pub must_be_equal_reach : (a b : Core) → core_reach (views.MustBeEqual a b) ≡ max (core_reach a) (core_reach b)
 must_be_equal_reach a b = ap core_reach (sym (variants.rolls-MustBeEqual a b)) ∙ fold-roll-Core ℕ layer_reach (layer.MustBeEqual a b)
 
-call_reach : (f : SymId) (parts : List Core) → core_reach (views.Call f parts) ≡ most (map core_reach parts)
+pub call_reach : (f : SymId) (parts : List Core) → core_reach (views.Call f parts) ≡ most (map core_reach parts)
 call_reach f parts = ap core_reach (sym (variants.rolls-Call f parts)) ∙ fold-roll-Core ℕ layer_reach (layer.Call f parts)
 
 abbrev reaches : List (SymId × Core) → List ℕ
@@ -44,11 +44,11 @@ same_reaches : (bs : List (SymId × Core)) → reaches bs ≡ map (λ (b : SymId
 same_reaches [] = refl
 same_reaches (b ∷ bs) = ap (λ ns. core_reach b.1 ∷ ns) (same_reaches bs)
 
-let_reach : (bs : List (SymId × Core)) (b : Core) → core_reach (views.Let bs b) ≡ max (most (map (λ (b : SymId × Core). core_reach b.1) bs)) (core_reach b)
+pub let_reach : (bs : List (SymId × Core)) (b : Core) → core_reach (views.Let bs b) ≡ max (most (map (λ (b : SymId × Core). core_reach b.1) bs)) (core_reach b)
 let_reach bs b =
     ap core_reach (sym (variants.rolls-Let bs b)) ∙ (fold-roll-Core ℕ layer_reach (layer.Let bs b) ∙ ap (λ ns. max (most ns) (core_reach b)) (same_reaches bs))
 
-stobj_let_reach : (bs : List (SymId × Core)) (vars : List SymId) (p c : Core)
+pub stobj_let_reach : (bs : List (SymId × Core)) (vars : List SymId) (p c : Core)
     → core_reach (views.StobjLet bs vars p c) ≡ max (most (map (λ (b : SymId × Core). core_reach b.1) bs)) (max (core_reach p) (core_reach c))
 stobj_let_reach bs vars p c =
     ap core_reach (sym (variants.rolls-StobjLet bs vars p c)) ∙ (fold-roll-Core ℕ layer_reach (layer.StobjLet bs vars p c)
@@ -186,7 +186,7 @@ module _ (h : Objects) where
 
   -- ---- one of many
 
-  deep_at : (fs : List Core) (i : ℕ) (d : Core) → i < length fs → depth_of (seen_core h (get_or fs i d)) ≤ depth_of_all (cores.cores (seen_cores h fs))
+  pub deep_at : (fs : List Core) (i : ℕ) (d : Core) → i < length fs → depth_of (seen_core h (get_or fs i d)) ≤ depth_of_all (cores.cores (seen_cores h fs))
   deep_at [] i d l = absurd (omega (arith, l))
   deep_at (f ∷ fs) zero d l = omega arith
   deep_at (f ∷ fs) (suc i) d l = let e = deep_at fs i d (omega (arith, l)) in omega (arith, e)
@@ -208,7 +208,7 @@ module _ (h : Objects) where
     lies = omega (arith, f.lies, most_at core_reach fs i d l);
   }
 
-  deep_bound_at : (bs : List (SymId × Core)) (i : ℕ) (d : SymId × Core) → i < length bs → depth_of (seen_core h (get_or bs i d).1) ≤ depth_of_all (cores.cores (seen_bound h bs))
+  pub deep_bound_at : (bs : List (SymId × Core)) (i : ℕ) (d : SymId × Core) → i < length bs → depth_of (seen_core h (get_or bs i d).1) ≤ depth_of_all (cores.cores (seen_bound h bs))
   deep_bound_at [] i d l = absurd (omega (arith, l))
   deep_bound_at (b ∷ bs) zero d l = omega arith
   deep_bound_at (b ∷ bs) (suc i) d l = let e = deep_bound_at bs i d (omega (arith, l)) in omega (arith, e)

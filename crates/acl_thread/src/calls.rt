@@ -108,7 +108,7 @@ fn calls_internal(world: &World, heap: &Heap, f: SymId) -> bool
 }
 
 /// Whether a function runs.
-fn runs(world: &World, heap: &Heap, f: SymId) -> bool
+pub fn runs(world: &World, heap: &Heap, f: SymId) -> bool
     ensures { result ≡ runs (seen_world heap.now world.now) f.0 }
 {
     match world.look(f, heap) {

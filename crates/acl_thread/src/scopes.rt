@@ -1,9 +1,9 @@
-//! The scope of the producer of a `STOBJ-LET`.
+//! The scopes of producers.
 
 ghost use Rattle.std.specs.Prelude.{◌≡◌, IfOk, option_to_list};
 ghost use Rattle.model_terms.specs.Cores as cores;
 ghost use Rattle.model_terms.specs.Sites.{parent_in};
-ghost use Rattle.model_terms.specs.Scopes.{without, producer_scope};
+ghost use Rattle.model_terms.specs.Scopes.{without, producer_scope, local_scope};
 ghost use Rattle.acl_terms.specs.Forms.{bound_names, seen_bound};
 ghost use Rattle.acl_terms.specs.Signatures.{seen_name, seen_scope};
 ghost use Rattle.acl_worlds.specs.Contents.{seen_world};
@@ -57,5 +57,20 @@ pub fn producer_scope(
     let mut inner = without_parent(alloc, parent, scope)?;
     let children = names_of(alloc, bindings)?;
     bind(&mut inner, world, heap, children.as_slice())?;
+    Ok(inner)
+}
+
+/// The scope of the producer of a `WITH-LOCAL-STOBJ`: the outer names, and the object.
+pub fn local_scope(
+    alloc: Global,
+    world: &World,
+    heap: &Heap,
+    scope: &Scope,
+    stobj: SymId,
+) -> Result<Scope, AllocError>
+    ensures { IfOk result (λ s. seen_scope s ≡ local_scope (seen_world heap.now world.now) (seen_scope scope.now) stobj.0) }
+{
+    let mut inner = Scope::from_entries(alloc, scope.entries())?;
+    bind(&mut inner, world, heap, &[stobj])?;
     Ok(inner)
 }

@@ -2,6 +2,7 @@
 use Rattle.std.proofs.Common.{◌≡◌, ℕ, zero, suc, ◌+◌, ◌-◌, List, [], ◌∷◌, ◌++◌, length, Bool, true, false, Option, Some, None, refl, sym, ap, ◌∙◌, subst}
 use Rattle.std.specs.Prelude.{drop, pos, if◌then◌else◌}
 use Rattle.model_objects.specs.Object.{Object, Integer}
+use Rattle.model_symbols.specs.Tables.{IsTable}
 use Rattle.model_symbols.specs.Symbols.{QualifiedName}
 use Rattle.model_text.specs.Token.{Form}
 use Rattle.model_text.specs.Next.{Next, Stands, Nothing, End, Faulty, next_at}
@@ -43,13 +44,10 @@ made_then s t m h =
 pub opening_made : IsMade opening_session
 opening_made = ([], tt, refl)
 
--- ---- the command that stands first
+-- ---- symbols alone
 
-module _ (s : Session) (m : IsMade s) (offset : ℕ) (bytes : Bytes) (f : Form) (end : ℕ) (symbols : List QualifiedName) (e : next_at s.environment.packages s.environment.current s.symbols offset bytes true ≡ Stands f end symbols) where
-  pub next_made : (k : Limits) → IsMade (command k (record s { symbols = symbols }) (numbered symbols f)).session
-  next_made k = made_then s (record { limits = k; read = symbols; form = numbered symbols f }) m (has_read s m offset bytes f end symbols e k)
-
-  -- a session in which a form was read and not run is as after the command `0`
+-- a session in which only symbols were added is as after the command `0`
+module _ (s : Session) (symbols : List QualifiedName) where
   abbrev zero_run : Step
   zero_run = record { limits = record { steps = 1; depth = 1 }; read = symbols; form = Integer (pos 0) }
 
@@ -57,10 +55,19 @@ module _ (s : Session) (m : IsMade s) (offset : ℕ) (bytes : Bytes) (f : Form) 
   unfolding command look_at settled grown_all grown evaluated first_in first_at first_fault below below_parts below_actuals outputs
   nothing_changed = refl
 
+  pub knowing_made : IsMade s → (more : List QualifiedName) × (symbols ≡ s.symbols ++ more) → IsTable (record { packages = s.environment.packages; symbols = symbols }) → IsMade (knowing s symbols)
+  knowing_made m added table = subst IsMade nothing_changed (made_then s zero_run m (record { added = added; table = table; known = tt; value = refl }))
+
+-- ---- the command that stands first
+
+module _ (s : Session) (m : IsMade s) (offset : ℕ) (bytes : Bytes) (f : Form) (end : ℕ) (symbols : List QualifiedName) (e : next_at s.environment.packages s.environment.current s.symbols offset bytes true ≡ Stands f end symbols) where
+  pub next_made : (k : Limits) → IsMade (command k (record s { symbols = symbols }) (numbered symbols f)).session
+  next_made k = made_then s (record { limits = k; read = symbols; form = numbered symbols f }) m (has_read s m offset bytes f end symbols e k)
+
   pub reading_made : IsMade (knowing s symbols)
   reading_made =
-      let h = has_read s m offset bytes f end symbols e zero_run.limits in
-      subst IsMade nothing_changed (made_then s zero_run m (record { added = h.added; table = h.table; known = tt; value = refl }))
+      let h = has_read s m offset bytes f end symbols e (zero_run s symbols).limits in
+      knowing_made s symbols m h.added h.table
 
 -- ---- books
 

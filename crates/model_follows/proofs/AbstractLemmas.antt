@@ -1,6 +1,6 @@
 -- The logic follows checked evaluation where stobjs may be abstract: from any lists that belong together.
-use Rattle.std.proofs.Common.{ℕ, None, refl, ap, ◌∙◌}
-use Rattle.model_eval.specs.Outcomes.{Stobjs, StateOf}
+use Rattle.std.proofs.Common.{ℕ, List, None, refl, sym, ap, ◌∙◌}
+use Rattle.model_eval.specs.Outcomes.{Shown, Stobjs, StateOf, State}
 use Rattle.model_eval.specs.PlacesKeeping.{Store}
 use Rattle.model_eval.specs.InPlace.{placed}
 use Rattle.model_eval.specs.Evaluated.{evaluated}
@@ -11,7 +11,8 @@ use Rattle.model_in_place.proofs.CallMeeting.{May, on_lists, at_places}
 use Rattle.model_in_place.proofs.FormMeeting.{meets_evaluated}
 use Rattle.model_in_place.proofs.WriteLemmas.{stands_moved}
 use Rattle.model_follows.specs.Costs.{Counted, form_counted}
-use Rattle.model_follows.specs.Follows.{one_thing}
+use Rattle.model_follows.proofs.EndedLemmas.{Ended, ended_outs}
+use Rattle.model_follows.proofs.PartThings.{length_things, length_outputs}
 use Rattle.model_follows.specs.Abstract.{abstract_ground, FollowedWith, LogicFollowsAbstract}
 use Rattle.model_follows.proofs.HeldThings.{Ground, all_held, ground_book}
 use Rattle.model_follows.proofs.CostLemmas.{ends_with}
@@ -29,6 +30,8 @@ logic_follows_abstract = record {
       let logic : Counted = form_counted (ground_book w ground) form values in
       let stage : Stage w ground scope variables s t values
       = record { are = are; stands = stands_anywhere w scope s.stobjs fits; same = record { symbols = refl; calls = refl; outer = refl }; sound = sound; lists = lists; kin = kin; named = named } in
+      let ended : ((vs : List (Shown ℕ)) (u : State ℕ) (e : Did w ground scope expected s t logic vs u) → Ended w logic (all_held u.symbols (held_after scope expected lists e.mine.last) vs))
+      = λ vs u e. ends_held w ground scope expected variables s t values logic vs u stage e in
       gives_map (Did w ground scope expected s t logic) (FollowedWith w ground scope expected form values s lists) (evaluated (on_lists w threaded base.packages k) d form variables s)
       (λ vs u e. record {
         outputs = e.outputs;
@@ -41,7 +44,11 @@ logic_follows_abstract = record {
         last = held_after scope expected lists e.mine.last;
         kin = kin_then w ground scope expected variables s t values logic vs u stage e;
         leaves = λ x h. after_unreturned scope expected lists e.mine.last x h;
-        ends = ends_with (ground_book w ground) form values (one_thing (all_held u.symbols (held_after scope expected lists e.mine.last) vs)) (ends_held w ground scope expected variables s t values logic vs u stage e);
+        value = (ended vs u e).value;
+        ends = ends_with (ground_book w ground) form values (ended vs u e).value (ended vs u e).ends;
+        parts =
+            ended_outs w logic (all_held u.symbols (held_after scope expected lists e.mine.last) vs) (ended vs u e) (ground_book w ground) expected
+            (sym (length_things u.symbols (held_after scope expected lists e.mine.last) vs ∙ length_outputs scope expected vs e.outputs));
       })
       (did w ground threaded k (book w ground threaded k symbols) (evaluated (on_lists w threaded base.packages k) d) (evaluated (at_places w threaded base.packages k) d)
       (meets_evaluated w threaded base.packages k d) (follows_evaluated w ground threaded followed.lawful k symbols bg (abstracts_follow w base symbols threaded followed k bg obligations) d) c mode scope form None expected

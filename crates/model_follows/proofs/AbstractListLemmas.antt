@@ -28,7 +28,7 @@ use Rattle.model_follows.specs.Follows.{thing_of_list, one_thing, table_of}
 use Rattle.model_follows.specs.Corresponding.{Lists, as_thing, theory_with, Follow}
 use Rattle.model_follows.specs.SymbolLaw.{IsWritten}
 use Rattle.model_follows.specs.Abstract.{abstract_of, abstract_ground, FollowedWith}
-use Rattle.model_follows.specs.AbstractLists.{AreLaidOut, LogicFollowsAbstractOnLists}
+use Rattle.model_follows.specs.AbstractLists.{AreLaidOut, FollowInParts, LogicFollowsAbstractOnLists}
 use Rattle.model_follows.proofs.HeldThings.{Ground, Held, held, all_held, ground_book, KinBy}
 use Rattle.model_follows.proofs.SymbolLemmas.{call_stays}
 use Rattle.model_follows.proofs.ListLemmas.{list_named, among_more}
@@ -186,7 +186,7 @@ follows_abstract_on_lists = record {
       = λ x o. corresponding_at (theory_with w base s.symbols) s.stobjs lists x correspond (live.there x o) in
       let at : ((x : ℕ) → IsStobj scope x → IsSoundList w base symbols s.symbols written laid bg grown old_nil x (list_of s.stobjs x) × IsKin w base symbols s.symbols written laid bg grown old_nil x (definition w x) (list_of s.stobjs x) (before x))
       = λ x o. from_lists w base symbols s.symbols written laid bg grown old_nil x (definition w x) refl (list_of s.stobjs x) (list_of lists x) (stood x o) in
-      gives_map (FollowedWith w ground scope expected form values s before) (Follow w base (theory_with w base symbols) scope expected form values lists) (checked w base.packages k d form variables s)
+      gives_map (FollowedWith w ground scope expected form values s before) (FollowInParts w base (theory_with w base symbols) scope expected form values lists) (checked w base.packages k d form variables s)
       (λ given u e.
       let last : Lists = lists_by ground.view u.symbols e.last u.stobjs in
       let now_nil : symbol_at u.symbols nil ≡ nil_name = symbol_at-is u.symbols nil nil_name e.sound.truth.at_nil in
@@ -201,7 +201,9 @@ follows_abstract_on_lists = record {
         correspond =
             correspond_each (theory_with w base u.symbols) ground.view e.last u.stobjs (ap repeats e.same_names ∙ live.once) (λ x i. (back x (live.only x (sym (ap (is_among x) e.same_names) ∙ i))).0);
         leaves = λ x o h. lists_are x o ∙ e.leaves x h;
-        ends = subst (λ (ts : List Thing). EndsWith (theory_with w base symbols) form values (one_thing ts)) (sym (things_are scope u.symbols last e.last lists_are expected given e.outputs)) e.ends;
+        value = e.value;
+        ends = e.ends;
+        parts = e.parts ∙ sym (things_are scope u.symbols last e.last lists_are expected given e.outputs);
       })
       (logic_follows_abstract.follows w base symbols threaded followed bg obligations c mode scope form expected suits seen_in n accepted formed suited k d variables s before values are
       (record { known = live.there; fits = λ x o. (at x o).0.fields })

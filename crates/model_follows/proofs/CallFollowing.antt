@@ -27,6 +27,7 @@ use Rattle.model_in_place.proofs.FormalLemmas.{firsts_distinct, seconds_are, for
 use Rattle.model_in_place.proofs.CallMeeting.{May, results, on_lists, at_places, Meets, executable_not_logic, meets_scoped}
 use Rattle.model_follows.specs.Costs.{Counted, form_counted, Ends}
 use Rattle.model_follows.specs.FollowedWorlds.{KnowsList, IsSuited}
+use Rattle.model_follows.proofs.EndedLemmas.{Ended}
 use Rattle.model_follows.proofs.HeldThings.{Ground, Held, all_held, Kin, AreKin, kin_same, kin_alike}
 use Rattle.model_follows.specs.Follows.{thing_of_list, one_thing, KnowsAll, table_of, IsSound, IfGives}
 use Rattle.model_follows.proofs.ThingLemmas.{knows_list_stays, same_held, outputs_in, list_stays}
@@ -69,7 +70,7 @@ module _ (w : World) (base : Ground) (threaded : IsThreaded w) (followed : Lawfu
           };
           grown = d.mine.grown;
           known = known_outside w base scope formals ins vs fs a (length u.symbols) given d.mine.known;
-          ends = subst (λ (os : List Thing). Ends logic (one_thing os)) (sym things_are) d.mine.ends;
+          ends = subst (λ (os : List Thing). Ended w logic os) (sym things_are) d.mine.ends;
         })
       where
         outside : Stobjs ℕ

@@ -1,7 +1,7 @@
 -- Calls of functions: guards before bodies, primitives, and functions of stobjs.
-use Rattle.std.proofs.Common.{◌≡◌, ℕ, List, [], length, Bool, true, false, Option, Some, refl, sym, ap, ◌∙◌, subst}
+use Rattle.std.proofs.Common.{◌≡◌, ℕ, List, [], ◌∷◌, length, Bool, true, false, Option, Some, refl, sym, ap, ◌∙◌, subst}
 use Rattle.std.specs.Prelude.{replicate, if◌then◌else◌}
-use Rattle.model_symbols.specs.Symbols.{QualifiedName}
+use Rattle.model_symbols.specs.Symbols.{QualifiedName, form_of}
 use Rattle.model_symbols.specs.Growth.{Extends}
 use Rattle.model_symbols.proofs.TableLemmas.{Extends-self, Extends-then}
 use Rattle.model_prims.specs.Applied.{Applied, applied, value_of}
@@ -28,6 +28,7 @@ use Rattle.model_in_place.proofs.CallMeeting.{May, on_lists, Meets}
 use Rattle.model_follows.specs.Costs.{Counted, caller, form_counted, Ends}
 use Rattle.model_follows.specs.FollowedWorlds.{HasAbstractCreator, IsSuited}
 use Rattle.model_lists.specs.Layouts.{initial}
+use Rattle.model_follows.proofs.EndedLemmas.{ended_one}
 use Rattle.model_follows.proofs.HeldThings.{Ground, Held, all_held, Kin, AreKin, itself, kin_same}
 use Rattle.model_follows.specs.Follows.{thing_of_list, KnowsAll, table_of, IsSound, IfGives}
 use Rattle.model_follows.proofs.CostLemmas.{costs_nothing, ends_call}
@@ -148,7 +149,7 @@ module _ (w : World) (base : Ground) (threaded : IsThreaded w) (followed : Lawfu
           };
           grown = q.grown;
           known = (q.known, tt);
-          ends = subst (λ (v : Thing). Ends (λ budget nest start. found (value_of base.table.packages p (all_held s.symbols c.lists vs)) start) v) q.value (0, costs_nothing (value_of base.table.packages p (all_held s.symbols c.lists vs)));
+          ends = ended_one w (λ budget nest start. found (value_of base.table.packages p (all_held s.symbols c.lists vs)) start) (form_of more o ∷ []) (subst (λ (v : Thing). Ends (λ budget nest start. found (value_of base.table.packages p (all_held s.symbols c.lists vs)) start) v) q.value (0, costs_nothing (value_of base.table.packages p (all_held s.symbols c.lists vs))));
         }
 
     pub follows_definition : (go : FunctionOfAbstract → State ℕ → Outcome ℕ) (name : ℕ) (sig : Signature) (d : Definition) → sig.ins ≡ sig_ins

@@ -37,6 +37,7 @@ use Rattle.model_follows.specs.Costs.{Ends}
 use Rattle.model_follows.specs.FollowedWorlds.{TypeSymbols, LayoutSymbols, ListSymbols, KnowsList, SuitsLogic, before_stobj, ordinary_before, stobj_argument, IsMadeFor}
 use Rattle.model_eval_laws.proofs.Lists.{same_number}
 use Rattle.model_accepted.proofs.AcceptLemmas.{true_false}
+use Rattle.model_follows.proofs.EndedLemmas.{ended_one}
 use Rattle.model_follows.proofs.HeldThings.{Ground, Held, all_held, Kin, AreKin, kin_plain, plain_kin, kin_same}
 use Rattle.model_follows.proofs.FormalThings.{AreSeen}
 use Rattle.model_follows.specs.Follows.{thing_of_list, one_thing, KnowsAll, table_of, IsSound, IfGives}
@@ -193,7 +194,7 @@ module _ (w : World) (base : Ground) (threaded : IsThreaded w) (followed : Lawfu
         sound = sound;
         grown = Extends-self (table_of base.table.packages s.symbols);
         known = is.0;
-        ends = subst (λ (v : Thing). Ends (λ budget nest start. found result start) v) (sym (ap one_thing is.1 ∙ e)) (0, costs_nothing result);
+        ends = ended_one w (λ budget nest start. found result start) (all_held s.symbols lists (plain os)) (subst (λ (v : Thing). Ends (λ budget nest start. found result start) v) (sym (ap one_thing is.1 ∙ e)) (0, costs_nothing result));
       }
 
   mine_written : (s : State ℕ) (t : StateOf (Store ℕ)) (lists : Held) (y : ℕ) (m : StobjList ℕ) (result : Thing) → AreKin w base seen_as scope s.symbols s.stobjs lists → base.view (seen_as y) ≡ None → Stands w scope s.stobjs t.stobjs → IsStobj scope y → IsSound w base.table scope s.symbols s.stobjs → KnowsList (length s.symbols) m
@@ -211,7 +212,9 @@ module _ (w : World) (base : Ground) (threaded : IsThreaded w) (followed : Lawfu
     };
     grown = Extends-self (table_of base.table.packages s.symbols);
     known = (tt, tt);
-    ends = subst (λ (v : Thing). Ends (λ budget nest start. found result start) v) (sym (ap (λ (b : Bool). if b then thing_of_list s.symbols m else lists y) (same_number y) ∙ e)) (0, costs_nothing result);
+    ends =
+        ended_one w (λ budget nest start. found result start) ((if nat_eq y y then thing_of_list s.symbols m else lists y) ∷ [])
+        (subst (λ (v : Thing). Ends (λ budget nest start. found result start) v) (sym (ap (λ (b : Bool). if b then thing_of_list s.symbols m else lists y) (same_number y) ∙ e)) (0, costs_nothing result));
   }
     where
       kin_by : (x : ℕ) → IsStobj scope x → (b : Bool) → nat_eq x y ≡ b → Kin w base s.symbols (seen_as x) (list_of (with_list y m s.stobjs) x) (if b then thing_of_list s.symbols m else lists x)

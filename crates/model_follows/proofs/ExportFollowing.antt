@@ -1,5 +1,5 @@
 -- Functions of abstract stobjs in the logic, beside checked evaluation.
-use Rattle.std.proofs.Common.{◌≡◌, ℕ, ◌<◌, List, [], ◌∷◌, map, length, Bool, true, false, Option, Some, None, refl, sym, ap, ◌∙◌, subst, inl, inr}
+use Rattle.std.proofs.Common.{◌≡◌, ℕ, suc, ◌<◌, List, [], ◌∷◌, map, length, Bool, true, false, Option, Some, None, refl, sym, ap, ◌∙◌, subst, inl, inr}
 use Rattle.std.specs.Prelude.{◌⊎◌, nat_eq, if◌then◌else◌}
 use Rattle.std.proofs.lemmas.Bool.{eqb-true}
 use Rattle.model_objects.specs.Object.{Symbol}
@@ -41,8 +41,11 @@ use Rattle.model_in_place.proofs.WriteLemmas.{stands_less, counted_same}
 use Rattle.model_in_place.proofs.ExportLemmas.{only, only_object, only_is, only_arguments}
 use Rattle.model_in_place.proofs.CallMeeting.{May, results, on_lists, at_places, Meets, meets_definition, only_argument}
 use Rattle.model_follows.specs.Costs.{Counted, caller, form_counted, Ends}
-use Rattle.model_follows.specs.Follows.{thing_of_list, one_thing, KnowsAll, table_of, IsSound, IfGives}
+use Rattle.model_follows.specs.Follows.{thing_of_list, KnowsAll, table_of, IsSound, IfGives}
 use Rattle.model_follows.specs.Abstract.{arguments_with, OutputsCorrespond, CreatorHolds, ObligationsInLogic, abstract_of, abstract_ground, IsOfAbstract, IsExportOf, IsFollowedBeside}
+use Rattle.model_follows.proofs.EndedLemmas.{ended_one, ended_as, ended_single, ended_outs, ended_by}
+use Rattle.model_follows.proofs.PartThings.{length_things}
+use Rattle.model_follows.proofs.HomeLemmas.{homes_of}
 use Rattle.model_follows.proofs.HeldThings.{Ground, Held, all_held, ground_book, IsViewed, KinBy, Kin, itself, by_names, kin_plain, plain_kin, kin_same}
 use Rattle.model_follows.proofs.ThingLemmas.{knows_truth, arguments_in, list_stays}
 use Rattle.model_follows.proofs.CostLemmas.{ends_call, ends_with}
@@ -54,7 +57,7 @@ use Rattle.model_follows.proofs.FormalThings.{AreSeen}
 use Rattle.model_follows.proofs.Following.{gives_map, gives_both, gives_counting, gives_moves, unchanged, unseen, nil_known, sound_less, sound_wider, MineAs, Lawful, Follows, DidAs}
 use Rattle.model_follows.proofs.PartFollowing.{book, IsQuiet, quiet_things}
 use Rattle.model_follows.proofs.CalledFollowing.{CallMine, defined_counted, Calling, follows_guarded, follows_definition, AbstractsFollow}
-use Rattle.model_follows.proofs.ExportThings.{arguments_are, exec_arguments, only_objects, exec_seen, export_seen, HaveShape, shape_is, shape_length, outs_are, IsReturned, returned, no_objects_renamed}
+use Rattle.model_follows.proofs.ExportThings.{arguments_are, exec_arguments, only_objects, exec_seen, export_seen, HaveShape, shape_is, shape_length, IsReturned, returned, no_objects_renamed}
 
 -- ---- outcomes of exports
 
@@ -129,9 +132,10 @@ module _ (w : World) (table : Table) (symbols : List QualifiedName) (threaded : 
           grown = Extends-self (table_of table.packages s.symbols);
           known = (knows_truth (table_of table.packages s.symbols) before.sound.truth, tt);
           ends =
-              subst (λ (v : Thing). Ends (logic_counted (all_held s.symbols before.lists vs)) v) (ap Symbol (sym (symbol_at-is s.symbols truth truth_name before.sound.truth.at_truth)))
+              ended_one w (logic_counted (all_held s.symbols before.lists vs)) (form_of s.symbols (truth_of by_number true) ∷ [])
+              (subst (λ (v : Thing). Ends (logic_counted (all_held s.symbols before.lists vs)) v) (ap Symbol (sym (symbol_at-is s.symbols truth truth_name before.sound.truth.at_truth)))
               (subst (λ (zs : List (Shown ℕ)). Ends (logic_counted (all_held s.symbols before.lists zs)) (Symbol truth_name)) (sym one.1)
-              (logic_ends (before.lists one.0 ∷ []) (Symbol truth_name) (subst (λ (q : ℕ). CallEndsWith thy q (before.lists one.0 ∷ []) (Symbol truth_name)) (sym is.0) view.well_formed)));
+              (logic_ends (before.lists one.0 ∷ []) (Symbol truth_name) (subst (λ (q : ℕ). CallEndsWith thy q (before.lists one.0 ∷ []) (Symbol truth_name)) (sym is.0) view.well_formed))));
         }
 
     -- ---- exports
@@ -150,6 +154,12 @@ module _ (w : World) (table : Table) (symbols : List QualifiedName) (threaded : 
       one =
           let found : (y : ℕ) × (first_stobj vs ≡ Some y) × (names_in vs ≡ y ∷ []) × IsStobj scope y × (layout_of w x.foundation ≡ layout_of w y) = only_argument w threaded table.packages limit ev el h scope x.foundation x.signature.ins vs b x.only in
           (found.0, found.2, found.3)
+
+      length_arguments : (ins : List Out) (vs : List (Shown ℕ)) → AreArguments w scope ins vs → length vs ≡ length ins
+      length_arguments [] [] h = refl
+      length_arguments [] (v ∷ vs) h = absurd h
+      length_arguments (k ∷ ks) [] h = absurd h
+      length_arguments (k ∷ ks) (v ∷ vs) h = ap (λ (n : ℕ). suc n) (length_arguments ks vs h.1)
 
       abbrev y : ℕ
       y = one.0
@@ -208,8 +218,11 @@ module _ (w : World) (table : Table) (symbols : List QualifiedName) (threaded : 
               sound = m.1.sound;
               grown = m.1.grown;
               known = m.1.known;
-              ends = ends_call thy g.exec (all_held u.symbols (by_names u.symbols u.stobjs) vs) (one_thing (all_held z.symbols m.1.last given))
-                  (subst (λ (q : Option Definition). Ends (defined_counted w base threaded law limit symbols ev el h f (only y) bg as_foundation q (all_held u.symbols (by_names u.symbols u.stobjs) vs)) (one_thing (all_held z.symbols m.1.last given))) (sym x.runs.stands) m.1.ends);
+              ends =
+                  ended_as w counted (λ budget nest start. caller thy budget nest g.exec (all_held u.symbols (by_names u.symbols u.stobjs) vs) start) (all_held z.symbols m.1.last given)
+                  (λ r e. ends_call thy g.exec (all_held u.symbols (by_names u.symbols u.stobjs) vs) r
+                  (subst (λ (q : Option Definition). Ends (defined_counted w base threaded law limit symbols ev el h f (only y) bg as_foundation q (all_held u.symbols (by_names u.symbols u.stobjs) vs)) r) (sym x.runs.stands) e))
+                  m.1.ends;
             };
           })
           (gives_both (λ given z. AreOutputs (only y) given_outs given × ((v2 : StateOf (Store ℕ)) × Moves w (May (only y) given_outs) u v z v2)) (MineAs w base as_foundation (only y) u counted)
@@ -253,9 +266,11 @@ module _ (w : World) (table : Table) (symbols : List QualifiedName) (threaded : 
           here = viewed g.stobj y d u.symbols (list_of u.stobjs y) (before.lists y) of.stobj seen_y (before.kin.each y one.2)
 
           holds : (e : Thing) × (l : Thing) × CallEndsWith thy g.exec (arguments_with g.signature.ins os (thing_of_list u.symbols (list_of u.stobjs y))) e × CallEndsWith thy g.logic (arguments_with g.signature.ins os (before.lists y)) l
-              × OutputsCorrespond thy d g.signature.outs (out_parts thy 0 g.signature.outs e) (out_parts thy 0 g.signature.outs l) × (l ≡ one_thing (out_parts thy 0 g.signature.outs l))
+              × OutputsCorrespond thy d g.signature.outs (out_parts thy 0 g.signature.outs e) (out_parts thy 0 g.signature.outs l)
           holds =
-              (obligations.exports name d g there is of.stobj).holds os (thing_of_list u.symbols (list_of u.stobjs y)) (before.lists y) test here.corresponding here.well_formed
+              (obligations.exports name d g there is of.stobj).holds os (thing_of_list u.symbols (list_of u.stobjs y)) (before.lists y) test
+              (ap (λ (args : List Thing). length args) (sym (args_are u.symbols before.lists)) ∙ (length_things u.symbols before.lists vs ∙ length_arguments g.signature.ins vs a))
+              (homes_of (table_of table.packages u.symbols) thy refl before.sound.table vs before.known) here.homes here.corresponding here.well_formed
               (subst (λ (args : List Thing). EndsWith thy g.guard (bind g.formals args []) test) (args_are u.symbols before.lists) guard_ends) not_nil
 
           parts : List Thing
@@ -264,16 +279,19 @@ module _ (w : World) (table : Table) (symbols : List QualifiedName) (threaded : 
           shape : HaveShape y outs given
           shape = shape_is y (zip (classes.stobjs x.signature.ins) (names_in vs)) outs given m.outputs
 
-          exec_value : holds.0 ≡ one_thing (all_held z.symbols m.mine.last given)
+          exec_value : holds.0 ≡ m.mine.ends.value
           exec_value =
-              ends_once (λ budget nest start. caller thy budget nest g.exec (arguments_with g.signature.ins os (thing_of_list u.symbols (list_of u.stobjs y))) start) holds.0 (one_thing (all_held z.symbols m.mine.last given))
+              ends_once (λ budget nest start. caller thy budget nest g.exec (arguments_with g.signature.ins os (thing_of_list u.symbols (list_of u.stobjs y))) start) holds.0 m.mine.ends.value
               (call_costs thy g.exec (arguments_with g.signature.ins os (thing_of_list u.symbols (list_of u.stobjs y))) holds.0 holds.2)
-              (subst (λ (args : List Thing). Ends (λ budget nest start. caller thy budget nest g.exec args start) (one_thing (all_held z.symbols m.mine.last given))) (args_are u.symbols (by_names u.symbols u.stobjs)) m.mine.ends)
+              (subst (λ (args : List Thing). Ends (λ budget nest start. caller thy budget nest g.exec args start) m.mine.ends.value) (args_are u.symbols (by_names u.symbols u.stobjs)) m.mine.ends.ends)
+
+          long : length g.signature.outs ≡ length (all_held z.symbols m.mine.last given)
+          long = ap (λ (ks : List Out). length ks) x.outs ∙ shape_length y g.stobj outs given z.symbols m.mine.last shape
 
           exec_parts : out_parts thy 0 g.signature.outs holds.0 ≡ all_held z.symbols m.mine.last given
           exec_parts =
               ap (out_parts thy 0 g.signature.outs) exec_value
-              ∙ outs_are thy g.signature.outs (all_held z.symbols m.mine.last given) (ap (λ (ks : List Out). length ks) x.outs ∙ shape_length y g.stobj outs given z.symbols m.mine.last shape)
+              ∙ ended_outs w (λ budget nest start. caller thy budget nest g.exec (all_held u.symbols (by_names u.symbols u.stobjs) vs) start) (all_held z.symbols m.mine.last given) m.mine.ends thy g.signature.outs long
 
           corresponding : OutputsCorrespond thy d (map (abstracted g.stobj) outs) (all_held z.symbols m.mine.last given) parts
           corresponding =
@@ -293,9 +311,9 @@ module _ (w : World) (table : Table) (symbols : List QualifiedName) (threaded : 
             grown = m.mine.grown;
             known = m.mine.known;
             ends =
-                subst (λ (args : List Thing). Ends (logic_counted args) (one_thing (all_held z.symbols (λ q. if nat_eq q y then part else before.lists q) given))) (sym (args_are u.symbols before.lists))
-                (subst (λ (r2 : Thing). Ends (logic_counted (arguments_with g.signature.ins os (before.lists y))) r2) (holds.5 ∙ ap one_thing (sym all))
-                (logic_ends (arguments_with g.signature.ins os (before.lists y)) holds.1 holds.3));
+                ended_by w (logic_counted (all_held u.symbols before.lists vs)) (all_held z.symbols (λ q. if nat_eq q y then part else before.lists q) given) thy g.signature.outs holds.1
+                (subst (λ (args : List Thing). Ends (logic_counted args) holds.1) (sym (args_are u.symbols before.lists)) (logic_ends (arguments_with g.signature.ins os (before.lists y)) holds.1 holds.3))
+                (ap (λ (ks : List Out). length ks) x.outs ∙ shape_length y g.stobj outs given z.symbols (λ q. if nat_eq q y then part else before.lists q) shape) (sym all) (λ none. none name g there);
           }
             where
               kin_by : (q : ℕ) → IsStobj scope q → (t : Bool) → nat_eq q y ≡ t → Kin w base z.symbols q (list_of z.stobjs q) (if t then part else before.lists q)
@@ -350,7 +368,7 @@ module _ (w : World) (table : Table) (symbols : List QualifiedName) (threaded : 
 
           guard_ends : EndsWith thy g.guard (bind g.formals (all_held u.symbols after.lists vs) []) (form_of u.symbols o)
           guard_ends =
-              subst (λ (args : List Thing). EndsWith thy g.guard (bind g.formals args []) (form_of u.symbols o)) (sym same_args) (ends_with thy g.guard (bind g.formals (all_held s.symbols before.lists vs) []) (form_of u.symbols o) did.mine.ends)
+              subst (λ (args : List Thing). EndsWith thy g.guard (bind g.formals args []) (form_of u.symbols o)) (sym same_args) (ends_with thy g.guard (bind g.formals (all_held s.symbols before.lists vs) []) (form_of u.symbols o) (ended_single w (form_counted thy g.guard (bind g.formals (all_held s.symbols before.lists vs) [])) (form_of u.symbols o) did.mine.ends))
 
           not_nil : is_nil by_name (form_of u.symbols o) ≡ false
           not_nil =

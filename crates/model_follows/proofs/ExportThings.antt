@@ -11,7 +11,6 @@ use Rattle.model_eval.specs.Outcomes.{Shown, Plain, StobjNamed}
 use Rattle.model_eval.specs.Variables.{ordinary}
 use Rattle.model_eval_laws.proofs.Lists.{same_number}
 use Rattle.model_logic.specs.Logic.{Theory, Thing}
-use Rattle.model_abstract.specs.Rules.{out_parts}
 use Rattle.model_abstract.specs.Corresponding.{CallHolds, HasPackage}
 use Rattle.model_accepted.specs.Threaded.{layout_of, AreOnly, abstracted}
 use Rattle.model_accepted.specs.StobjScopes.{IsStobj, AreOutputs}
@@ -19,10 +18,8 @@ use Rattle.model_in_place.specs.Calls.{names_in, AreArguments}
 use Rattle.model_accepted.proofs.AcceptLemmas.{true_false, neither}
 use Rattle.model_in_place.proofs.ExportLemmas.{only, only_is}
 use Rattle.model_follows.specs.Abstract.{arguments_with, OutputsCorrespond, IsWellFormed}
-use Rattle.model_follows.specs.Follows.{one_thing}
 use Rattle.model_follows.proofs.HeldThings.{Ground, Held, all_held}
 use Rattle.model_follows.proofs.FormalThings.{AreSeen}
-use Rattle.model_follows.proofs.PartThings.{elements_are}
 
 -- ---- arguments
 
@@ -120,22 +117,6 @@ shape_length y stobj (Ordinary ∷ ks) (Plain o ∷ vs) symbols lists h = ap (λ
 shape_length y stobj (Ordinary ∷ ks) (StobjNamed z ∷ vs) symbols lists h = absurd h
 shape_length y stobj (worlds.Stobj x ∷ ks) (Plain o ∷ vs) symbols lists h = absurd h
 shape_length y stobj (worlds.Stobj x ∷ ks) (StobjNamed z ∷ vs) symbols lists h = ap (λ (n : ℕ). suc n) (shape_length y stobj ks vs symbols lists h.1)
-
-same_length : {A B C : Type 0} (f : A → B) (xs : List A) (ys : List C) → length xs ≡ length ys → length (map f xs) ≡ length ys
-same_length f [] ys e = e
-same_length f (x ∷ xs) [] e = absurd (omega (arith, e))
-same_length f (x ∷ xs) (y ∷ ys) e = ap (λ (n : ℕ). suc n) (same_length f xs ys (omega (arith, e)))
-
--- the parts of several values as one
-pub outs_are : (b : Theory) (outs : List Out) (os : List Thing) → length outs ≡ length os → out_parts b 0 outs (one_thing os) ≡ os
-outs_are b [] [] e = refl
-outs_are b [] (o ∷ os) e = absurd (omega (arith, e))
-outs_are b (x ∷ []) [] e = absurd (omega (arith, e))
-outs_are b (x ∷ []) (o ∷ []) e = refl
-outs_are b (x ∷ []) (o ∷ (p ∷ os)) e = absurd (omega (arith, e))
-outs_are b (x ∷ (y ∷ xs)) [] e = absurd (omega (arith, e))
-outs_are b (x ∷ (y ∷ xs)) (o ∷ []) e = absurd (omega (arith, e))
-outs_are b (x ∷ (y ∷ xs)) (o ∷ (p ∷ os)) e = elements_are (map (λ (q : Out). 0) (x ∷ (y ∷ xs))) (o ∷ (p ∷ os)) (same_length (λ (q : Out). 0) (x ∷ (y ∷ xs)) (o ∷ (p ∷ os)) e)
 
 -- ---- outputs in L
 

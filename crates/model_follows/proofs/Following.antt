@@ -35,8 +35,9 @@ use Rattle.model_in_place.proofs.CallMeeting.{May, Meets}
 use Rattle.model_in_place.proofs.LawLemmas.{unwritten}
 use Rattle.model_follows.specs.Costs.{Counted, form_counted, Ends}
 use Rattle.model_follows.specs.FollowedWorlds.{KnowsList, IsSuited}
-use Rattle.model_follows.specs.Follows.{thing_of_list, one_thing, KnowsAll, table_of, IsSound, IfGives}
+use Rattle.model_follows.specs.Follows.{thing_of_list, KnowsAll, table_of, IsSound, IfGives}
 pub use Rattle.model_follows.specs.Held.{AreSeenIn, Lawful}
+use Rattle.model_follows.proofs.EndedLemmas.{Ended, ended_as}
 use Rattle.model_follows.proofs.HeldThings.{Ground, Held, all_held, Kin, AreKin, itself, AreHeld, kin_same}
 use Rattle.model_follows.proofs.ThingLemmas.{knows_nil, knows_list_stays, list_stays}
 use Rattle.model_follows.proofs.ScopeThings.{named_kept}
@@ -240,7 +241,7 @@ module _ (w : World) (base : Ground) where
     pub sound : IsSound w base.table scope u.symbols u.stobjs
     pub grown : Extends (table_of base.table.packages s.symbols) (table_of base.table.packages u.symbols)
     pub known : KnowsAll (length u.symbols) given
-    pub ends : Ends logic (one_thing (all_held u.symbols last given))
+    pub ends : Ended w logic (all_held u.symbols last given)
 
   abbrev pub Mine : Scope → State ℕ → Counted → List (Shown ℕ) → State ℕ → Type 0
   Mine scope s logic given u = MineAs itself scope s logic given u
@@ -313,9 +314,9 @@ module _ (w : World) (base : Ground) where
 
   -- a value in L is the same with them
   pub ends_held : (scope : Scope) (expected : List Out) (variables : Variables ℕ) (s : State ℕ) (t : StateOf (Store ℕ)) (values : Values) (logic : Counted) (given : List (Shown ℕ)) (u : State ℕ)
-      → (stage : Stage scope variables s t values) → (d : Did scope expected s t logic given u) → Ends logic (one_thing (all_held u.symbols (held_after scope expected stage.lists d.mine.last) given))
+      → (stage : Stage scope variables s t values) → (d : Did scope expected s t logic given u) → Ended w logic (all_held u.symbols (held_after scope expected stage.lists d.mine.last) given)
   ends_held scope expected variables s t values logic given u stage d =
-      subst (λ (os : List Thing). Ends logic (one_thing os)) (sym (outputs_returned scope u.symbols expected expected stage.lists d.mine.last given d.outputs (λ x h. h))) d.mine.ends
+      subst (λ (os : List Thing). Ended w logic os) (sym (outputs_returned scope u.symbols expected expected stage.lists d.mine.last given d.outputs (λ x h. h))) d.mine.ends
 
   -- a form that returns no stobj leaves the stage
   unfoldable pub quiet_after : (scope : Scope) (variables : Variables ℕ) (s : State ℕ) (t : StateOf (Store ℕ)) (values : Values) (logic : Counted) (given : List (Shown ℕ)) (u : State ℕ)
@@ -345,7 +346,7 @@ module _ (w : World) (base : Ground) where
     sound = m.sound;
     grown = Extends-then grown m.grown;
     known = m.known;
-    ends = f (one_thing (all_held q.symbols m.last given)) m.ends;
+    ends = ended_as w logic whole (all_held q.symbols m.last given) f m.ends;
   }
 
   pub mine_before : (scope : Scope) (s u : State ℕ) (logic whole : Counted) (given : List (Shown ℕ)) (q : State ℕ)

@@ -41,6 +41,7 @@ use Rattle.model_in_place.proofs.FormMeeting.{length_kinds, meets_evaluated}
 use Rattle.model_follows.specs.Costs.{Counted, caller, form_counted, Ends}
 use Rattle.model_follows.specs.FollowedWorlds.{HasCreator, HasAbstractCreator, IsSuited, AreSuited}
 use Rattle.model_lists.specs.Layouts.{initial}
+use Rattle.model_follows.proofs.EndedLemmas.{Ended, ended_one, ended_single, ended_elements}
 use Rattle.model_follows.proofs.HeldThings.{Ground, Held, held, all_held, Kin, AreKin, itself}
 use Rattle.model_follows.proofs.FormalThings.{AreSeen}
 use Rattle.model_follows.specs.Follows.{one_thing, KnowsShown, KnowsAll, table_of, IsSound, IfGives}
@@ -106,7 +107,7 @@ module _ (w : World) (base : Ground) (threaded : IsThreaded w) (followed : Lawfu
     sound = sound;
     grown = Extends-self (table_of base.table.packages s.symbols);
     known = known;
-    ends = subst (λ (v : Thing). Ends (λ budget nest start. found logic start) v) e (0, costs_nothing logic);
+    ends = ended_one w (λ budget nest start. found logic start) (all_held s.symbols lists given) (subst (λ (v : Thing). Ends (λ budget nest start. found logic start) v) e (0, costs_nothing logic));
   }
 
   follows_leaf : (c : World) (mode : Mode) (scope : Scope) (form : Core) (formal : Option ℕ) (expected : List Out) (variables : Variables ℕ) (s : State ℕ) (t : StateOf (Store ℕ)) (values : Values) (a : Outcome ℕ)
@@ -216,7 +217,8 @@ module _ (w : World) (base : Ground) (threaded : IsThreaded w) (followed : Lawfu
             let thing : Thing = held u.symbols (held_after scope (name_kinds c (x ∷ [])) stage.lists d.mine.last) v in
             gives_map (Mine w base scope u (form_counted thy body (bind (x ∷ []) (thing ∷ []) values))) (Mine w base scope s (form_counted thy (Let (x ∷ []) (more g none) body) values)) (ev body (bound (x ∷ []) (v ∷ []) variables) u)
             (λ given q m. mine_before w base scope s u (form_counted thy body (bind (x ∷ []) (thing ∷ []) values)) (form_counted thy (Let (x ∷ []) (more g none) body) values) given q d.mine.grown
-            (λ r j. ends_then (form_counted thy g values) (λ o. form_counted thy body (bind (x ∷ []) (o ∷ []) values)) thing r (ends_held w base scope (name_kinds c (x ∷ [])) variables s t values (form_counted thy g values) (v ∷ []) u stage d) j) m)
+            (λ r j. ends_then (form_counted thy g values) (λ o. form_counted thy body (bind (x ∷ []) (o ∷ []) values)) thing r
+            (ended_single w (form_counted thy g values) thing (ends_held w base scope (name_kinds c (x ∷ [])) variables s t values (form_counted thy g values) (v ∷ []) u stage d)) j) m)
             (follows_body c mode scope (x ∷ []) body expected variables values s t (form_counted thy g values) (v ∷ []) u form stage d)
 
     -- a new stobj
@@ -258,7 +260,7 @@ module _ (w : World) (base : Ground) (threaded : IsThreaded w) (followed : Lawfu
             chosen q other e i m =
                 gives_map (Mine w base scope u (form_counted thy other values)) (Mine w base scope s (form_counted thy (If test b d) values)) (ev other variables u)
                 (λ given z r. mine_before w base scope s u (form_counted thy other values) (form_counted thy (If test b d) values) given z done.mine.grown
-                (λ v j. ends_then (form_counted thy test values) go (form_of u.symbols o) v done.mine.ends (i v j)) r) m
+                (λ v j. ends_then (form_counted thy test values) go (form_of u.symbols o) v (ended_single w (form_counted thy test values) (form_of u.symbols o) done.mine.ends) (i v j)) r) m
 
             by_test : (q : Bool) → is_nil by_name (form_of u.symbols o) ≡ q → IfGives (Mine w base scope s (form_counted thy (If test b d) values)) (ev (if q then d else b) variables u)
             by_test true e = chosen true d e (λ v j. subst (λ (r : Bool). Ends (λ budget nest start. if r then form_counted thy d values budget nest start else form_counted thy b values budget nest start) v) (sym e) j) second
@@ -311,12 +313,12 @@ module _ (w : World) (base : Ground) (threaded : IsThreaded w) (followed : Lawfu
         (λ vs u d.
         let lists : Held = held_after scope (name_kinds c names) stage.lists d.mine.last in
         let things : List Thing = all_held u.symbols lists vs in
+        let ended : Ended w (form_counted thy bnd values) things = ends_held w base scope (name_kinds c names) variables s t values (form_counted thy bnd values) vs u stage d in
         let long : length things ≡ length names = length_things u.symbols lists vs ∙ (length_outputs scope (name_kinds c names) vs d.outputs ∙ length_kinds c names) in
         gives_map (Mine w base scope u (form_counted thy body (bind names things values))) (Mine w base scope s (form_counted thy (MvLet names bnd body) values)) (ev body (bound names vs variables) u)
         (λ given q m. mine_before w base scope s u (form_counted thy body (bind names things values)) (form_counted thy (MvLet names bnd body) values) given q d.mine.grown
-        (λ r j. ends_then (form_counted thy bnd values) (λ o. form_counted thy body (bind names (element_values names 0 o) values)) (one_thing things) r (ends_held w base scope (name_kinds c names) variables s t values (form_counted thy bnd values) vs u stage d)
-        (subst (λ (os : List Thing). Ends (form_counted thy body (bind names os values)) r)
-        (sym (ap (element_values names 0) (one_of_several things (subst (λ (n : ℕ). 2 ≤ n) (sym long) form.suited.0)) ∙ elements_are names things (sym long))) j)) m)
+        (λ r j. ends_then (form_counted thy bnd values) (λ o. form_counted thy body (bind names (element_values names 0 o) values)) ended.value r ended.ends
+        (subst (λ (os : List Thing). Ends (form_counted thy body (bind names os values)) r) (sym (ended_elements w (form_counted thy bnd values) things ended names (sym long) form.suited.0)) j)) m)
         (follows_body c mode scope names body expected variables values s t (form_counted thy bnd values) vs u
         (record { suited_world = form.suited_world; runs = form.runs; accepted = parts.1; formed = form.formed.1; suited = form.suited.2 }) stage d))
     follows_opened c mode scope (StobjLet names forms vars producer consumer) formal expected variables s t values form stage =

@@ -53,6 +53,7 @@ use Rattle.model_symbols.specs.Tables.{IsTable}
 use Rattle.model_prims.specs.Laws.{NamesTruth}
 use Rattle.model_follows.specs.Costs.{Counted, form_counted, Ends}
 use Rattle.model_follows.specs.FollowedWorlds.{KnowsList, IsSuited}
+use Rattle.model_follows.proofs.EndedLemmas.{Ended, ended_as, ended_parts}
 use Rattle.model_follows.proofs.HeldThings.{Ground, Held, held, all_held, Kin, AreKin, itself, AreHeld, kin_plain, plain_kin, kin_same}
 use Rattle.model_follows.specs.Follows.{thing_of_list, one_thing, KnowsShown, table_of, IsSound, IfGives}
 use Rattle.model_follows.proofs.KidThings.{named_loan, Good, EachLoan, each_loan, each_among, kid_good, kid_other, put_named, raised_good, raised_other}
@@ -391,8 +392,8 @@ module _ (w : World) (base : Ground) (threaded : IsThreaded w) (followed : Lawfu
       last_kin =
           kin_after w base inside kinds s.symbols u.symbols lent_lists u.stobjs inner_lists bk.done.mine.last nils grown inside_sound.known (unchanged w inside kinds start_s start_t u bk.done.to bk.done.moves) inside_kin bk.done.mine.kin
 
-      producer_ends : Ends logic (one_thing things)
-      producer_ends = subst (λ (os : List Thing). Ends logic (one_thing os)) (sym (outputs_returned inside u.symbols kinds kinds inner_lists bk.done.mine.last vs bk.done.outputs (λ x i. i))) bk.done.mine.ends
+      producer_ends : Ended w logic things
+      producer_ends = subst (λ (os : List Thing). Ended w logic os) (sym (outputs_returned inside u.symbols kinds kinds inner_lists bk.done.mine.last vs bk.done.outputs (λ x i. i))) bk.done.mine.ends
 
       abbrev bindings : Values
       bindings = bind vars things []
@@ -521,10 +522,10 @@ module _ (w : World) (base : Ground) (threaded : IsThreaded w) (followed : Lawfu
 
       -- ---- the logic's value
 
-      things_are : parts_for vars (one_thing things) ≡ things
+      things_are : parts_for vars producer_ends.value ≡ things
       things_are =
           let long : length things ≡ length vars = length_things u.symbols last_lists vs ∙ (length_outputs inside kinds vs bk.done.outputs ∙ length_kinds c vars) in
-          parts_are vars things (sym long)
+          ended_parts w logic things producer_ends vars (sym long)
 
       loans_later : (ms : List (Loan ℕ)) → EachLoan w p parent (symbol_at u.symbols) (λ z. z < length u.symbols) naming (stage.stands.fits p stobj) (stage.sound.recognized p stobj) parent_known ms
           → map (named_loan (symbol_at s.symbols)) ms ≡ map (named_loan (symbol_at u.symbols)) ms
@@ -550,10 +551,10 @@ module _ (w : World) (base : Ground) (threaded : IsThreaded w) (followed : Lawfu
       ends_whole v e =
           ends_spending (length (logic_loans thy ns forms values))
           (λ budget nest start. then_found (form_counted thy producer (with_children (logic_loans thy ns forms values) values) budget nest start) (λ r calls. finish r budget nest calls)) v
-          (ends_then (form_counted thy producer (with_children (logic_loans thy ns forms values) values)) finish (one_thing things) v
-          (subst (λ (ms : List (Loan QualifiedName)). Ends (form_counted thy producer (with_children ms values)) (one_thing things)) (sym ll) producer_ends)
-          (ends_spending (length (put_loans vars (logic_loans thy ns forms values))) (form_counted thy consumer (bind vars (parts_for vars (one_thing things)) [] ++ with_parent (put_loans vars (logic_loans thy ns forms values)) (bind vars (parts_for vars (one_thing things)) []) values)) v
-          (subst (λ (ms : List (Loan QualifiedName)). Ends (form_counted thy consumer (bind vars (parts_for vars (one_thing things)) [] ++ with_parent ms (bind vars (parts_for vars (one_thing things)) []) values)) v) (sym put_is)
+          (ends_then (form_counted thy producer (with_children (logic_loans thy ns forms values) values)) finish producer_ends.value v
+          (subst (λ (ms : List (Loan QualifiedName)). Ends (form_counted thy producer (with_children ms values)) producer_ends.value) (sym ll) producer_ends.ends)
+          (ends_spending (length (put_loans vars (logic_loans thy ns forms values))) (form_counted thy consumer (bind vars (parts_for vars producer_ends.value) [] ++ with_parent (put_loans vars (logic_loans thy ns forms values)) (bind vars (parts_for vars producer_ends.value) []) values)) v
+          (subst (λ (ms : List (Loan QualifiedName)). Ends (form_counted thy consumer (bind vars (parts_for vars producer_ends.value) [] ++ with_parent ms (bind vars (parts_for vars producer_ends.value) []) values)) v) (sym put_is)
           (subst (λ (os : List Thing). Ends (form_counted thy consumer (bind vars os [] ++ with_parent (map (named_loan (symbol_at u.symbols)) lsv) (bind vars os []) values)) v) (sym things_are) e))))
         where
           finish : Thing → Counted
@@ -572,8 +573,8 @@ module _ (w : World) (base : Ground) (threaded : IsThreaded w) (followed : Lawfu
             sound = sound_wider w base outer scope q.symbols z.symbols q.stobjs z.stobjs sound_q e.mine.sound e.mine.grown (λ x i. unseen w outer expected q bk.to z e.to e.moves x i);
             grown = Extends-then (subst (λ (m : List QualifiedName). Extends (table_of base.table.packages s.symbols) (table_of base.table.packages m)) (sym bk.names_same) grown) e.mine.grown;
             known = e.mine.known;
-            ends = ends_whole (one_thing (all_held z.symbols (held_after outer expected lists_q e.mine.last) given))
-                (subst (λ (os : List Thing). Ends (form_counted thy consumer (bindings ++ rest)) (one_thing os)) (sym (outputs_returned outer z.symbols expected expected lists_q e.mine.last given e.outputs (λ x i. i))) e.mine.ends);
+            ends = ended_as w (form_counted thy consumer (bindings ++ rest)) (form_counted thy whole values) (all_held z.symbols (held_after outer expected lists_q e.mine.last) given) ends_whole
+                (subst (λ (os : List Thing). Ended w (form_counted thy consumer (bindings ++ rest)) os) (sym (outputs_returned outer z.symbols expected expected lists_q e.mine.last given e.outputs (λ x i. i))) e.mine.ends);
           })
           (did w base threaded limit thy ev el h f c mode outer consumer None expected (record { suited_world = suited_world; runs = n; accepted = second; formed = formed_consumer; suited = suited_consumer }) (bound vars vs variables) q bk.to (bindings ++ rest)
           (record {

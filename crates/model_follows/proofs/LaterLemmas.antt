@@ -5,9 +5,9 @@ use Rattle.std.proofs.lemmas.Bool.Decides.{nat_tests}
 use Rattle.model_prims.specs.Kinds.{by_name, is_nil}
 use Rattle.model_terms.specs.Cores.{Core, Cores, Var, Const, If, Let, Mv, MvLet, StobjLet, WithLocal, MustBeEqual, Call, none, more}
 use Rattle.model_terms.specs.Worlds.{Definition, definition, Primitive, Defined, Macro, Constant, Concrete, Generated, Abstract, OfAbstract, Named, Signed}
-use Rattle.model_logic.specs.Logic.{Theory, Thing, Values, Found, then_found, found, bind, bind_others, element_values, parts_for, Caller, spending, creator_of, logic_loans, with_children, put_loans, with_parent, form_value, form_values, defined_value, logic_of_abstract, call_within, logic_call, CallEndsWith}
-use Rattle.model_follows.specs.CostLaw.{CallsCost}
-use Rattle.model_follows.specs.Costs.{caller, Ends}
+use Rattle.model_logic.specs.Logic.{Theory, Thing, Values, Found, then_found, found, bind, bind_others, element_values, parts_for, Caller, spending, creator_of, logic_loans, with_children, put_loans, with_parent, form_value, form_values, defined_value, logic_of_abstract, call_within, logic_call, EndsWith, CallEndsWith}
+use Rattle.model_follows.specs.CostLaw.{CallsCost, FormsCost}
+use Rattle.model_follows.specs.Costs.{caller, form_counted, Ends}
 
 within : (m n : ℕ) → m ≤ n → nat_le m n ≡ true
 within m n l = grind (arith, nat_tests)
@@ -161,6 +161,43 @@ call_costs b name args v h = (h.1, record { gives = λ budget nest start r d. gi
             calls_or : Option Found → ℕ
             calls_or None = h.1
             calls_or (Some z) = z.calls
+
+-- the same of a form
+pub form_costs : (b : Theory) (form : Core) (values : Values) (v : Thing) → EndsWith b form values v → Ends (form_counted b form values) v
+form_costs b form values v h = (
+  h.1,
+  record {
+    gives = λ budget nest start r d.
+        gives budget nest start r d (form_value b h.0 (call_within b h.0 h.0) form values 0) refl
+        (later_form b h.0 budget start nest (call_within b h.0 h.0) (call_within b budget nest) (later_call b h.0 budget start h.0 nest) form values 0);
+  },
+)
+  where
+    gives : (budget nest start : ℕ) → start + h.1 ≤ budget → h.1 ≤ nest → (x : Option Found) → form_value b h.0 (call_within b h.0 h.0) form values 0 ≡ x
+        → Later b h.0 budget start nest 0 x (form_value b budget (call_within b budget nest) form values (0 + start)) → form_value b budget (call_within b budget nest) form values start ≡ found v (start + h.1)
+    gives budget nest start r d None e i = none_found (sym h.2 ∙ e)
+      where
+        none_found : found v h.1 ≡ None → form_value b budget (call_within b budget nest) form values start ≡ found v (start + h.1)
+        none_found g = cc
+    gives budget nest start r d (Some f) e i =
+        let same : (f.value ≡ v) × (f.calls ≡ h.1) = fields (sym e ∙ h.2) in
+        let from : 0 + start ≡ start = omega arith in
+        ap (form_value b budget (call_within b budget nest) form values) (sym from)
+        ∙ (i.1 (omega (arith, same.1, r)) (omega (arith, same.1, d)) ∙ (ap (λ (z : Thing). found z (f.calls + start)) same.0 ∙ ap (λ (z : ℕ). found v z) (omega (arith, same.1))))
+      where
+        fields : Some f ≡ found v h.1 → (f.value ≡ v) × (f.calls ≡ h.1)
+        fields g = (ap value_or g, ap calls_or g)
+          where
+            value_or : Option Found → Thing
+            value_or None = v
+            value_or (Some z) = z.value
+
+            calls_or : Option Found → ℕ
+            calls_or None = h.1
+            calls_or (Some z) = z.calls
+
+pub forms_cost : FormsCost
+forms_cost = record { costs = form_costs }
 
 pub calls_cost : CallsCost
 calls_cost = record { costs = call_costs }

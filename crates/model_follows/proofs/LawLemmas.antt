@@ -97,11 +97,14 @@ logic_follows = record {
         sound = e.mine.sound;
         fits = λ x o. (stands_moved w scope (May scope expected) s t u e.to (λ y i. i.1) (stands_anywhere w scope s.stobjs fits) e.moves).fits x o;
         known = e.mine.known;
-        ends = ends_with (book w ground threaded k symbols) form values (one_thing (things_of u.symbols u.stobjs vs))
-            (subst (λ (os : List Thing). Ends (form_counted (book w ground threaded k symbols) form values) (one_thing os))
+        ends =
+            ends_with (book w ground threaded k symbols) form values (one_thing (things_of u.symbols u.stobjs vs))
+            (subst (λ (v : Thing). Ends (form_counted (book w ground threaded k symbols) form values) v)
+            (e.mine.ends.exact followed.concrete
+            ∙ ap one_thing
             (same_held u.symbols scope vs (by_names u.symbols u.stobjs) e.mine.last (outputs_in scope expected vs e.outputs) (λ x i. plain_kin w ground u.symbols x (list_of u.stobjs x) (e.mine.last x) refl (e.mine.kin.each x i))
-            ∙ all_named u.symbols u.stobjs vs)
-            e.mine.ends);
+            ∙ all_named u.symbols u.stobjs vs))
+            e.mine.ends.ends);
       })
       (did w ground threaded k (book w ground threaded k symbols) (evaluated (on_lists w threaded base.packages k) d) (evaluated (at_places w threaded base.packages k) d)
       (meets_evaluated w threaded base.packages k d) (follows_evaluated w ground threaded law k symbols bg (no_abstracts w base symbols threaded followed k bg) d) c mode scope form None expected

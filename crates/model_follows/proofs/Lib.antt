@@ -1,5 +1,7 @@
 pub mod CostLemmas
 pub mod HeldThings
+pub mod EndedLemmas
+pub mod HomeLemmas
 pub mod ThingLemmas
 pub mod ScopeThings
 pub mod Following

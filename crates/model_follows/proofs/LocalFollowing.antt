@@ -43,6 +43,7 @@ use Rattle.model_in_place.proofs.CallMeeting.{May, on_lists, Meets}
 use Rattle.model_in_place.proofs.FormMeeting.{length_kinds}
 use Rattle.model_follows.specs.Costs.{Counted, caller, form_counted, Ends}
 use Rattle.model_follows.specs.FollowedWorlds.{KnowsList, IsSuited}
+use Rattle.model_follows.proofs.EndedLemmas.{Ended, ended_as, ended_elements}
 use Rattle.model_follows.proofs.HeldThings.{Ground, Held, held, all_held, Kin, AreKin, itself, AreHeld, kin_same}
 use Rattle.model_follows.specs.Follows.{thing_of_list, one_thing, KnowsShown, table_of, IsSound, IfGives}
 use Rattle.model_follows.proofs.CostLemmas.{ends_then}
@@ -164,9 +165,9 @@ module _ (w : World) (base : Ground) (threaded : IsThreaded w) (followed : Lawfu
           kin_after w base inner (name_kinds c locals) s.symbols u.symbols ((stobj, l) ∷ s.stobjs) u.stobjs inner_lists d.mine.last (nil_known w base scope s.symbols s.stobjs stage.sound) d.mine.grown inner_sound.known
           (unchanged w inner (name_kinds c locals) with_it inner_t u d.to d.moves) inner_kin d.mine.kin
 
-      producer_ends : Ends logic (one_thing things)
+      producer_ends : Ended w logic things
       producer_ends =
-          subst (λ (os : List Thing). Ends logic (one_thing os)) (sym (outputs_returned inner u.symbols (name_kinds c locals) (name_kinds c locals) inner_lists d.mine.last vs d.outputs (λ x h. h))) d.mine.ends
+          subst (λ (os : List Thing). Ended w logic os) (sym (outputs_returned inner u.symbols (name_kinds c locals) (name_kinds c locals) inner_lists d.mine.last vs d.outputs (λ x h. h))) d.mine.ends
 
       names_u : names u.stobjs ≡ stobj ∷ names s.stobjs
       names_u = ap (λ (o : Stobjs ℕ). names o) d.moves.stobjs ∙ names_after d.moves.writes ((stobj, l) ∷ s.stobjs)
@@ -301,10 +302,19 @@ module _ (w : World) (base : Ground) (threaded : IsThreaded w) (followed : Lawfu
               (object_shown x (not_it x k i))
               ∙ passed x k (variable_in by_number (bound locals vs variables) x) (not_it x k i) (outer_are.each x k i))
 
-      things_are : element_values locals 0 (one_thing things) ≡ things
+      things_are : element_values locals 0 producer_ends.value ≡ things
       things_are =
           let long : length things ≡ length locals = length_things u.symbols last_lists vs ∙ (length_outputs inner (name_kinds c locals) vs d.outputs ∙ length_kinds c locals) in
-          ap (element_values locals 0) (one_of_several things (subst (λ (m : ℕ). 2 ≤ m) (sym long) several)) ∙ elements_are locals things (sym long)
+          ended_elements w logic things producer_ends locals (sym long) several
+
+      ends_whole : (v : Thing) → Ends (form_counted thy body (bind_others stobj locals things values)) v → Ends (form_counted thy whole values) v
+      unfolding form_value
+      ends_whole v e =
+          ends_then (λ budget nest start. caller thy budget nest (creator_of (definition w stobj)) [] start)
+          (λ o budget nest start. then_found (form_counted thy producer ((stobj, o) ∷ values) budget nest start) (λ v calls. form_counted thy body (bind_others stobj locals (element_values locals 0 v) values) budget nest calls))
+          made v creator.makes
+          (ends_then logic (λ v. form_counted thy body (bind_others stobj locals (element_values locals 0 v) values)) producer_ends.value v producer_ends.ends
+          (subst (λ (os : List Thing). Ends (form_counted thy body (bind_others stobj locals os values)) v) (sym things_are) e))
 
       after_producer : IfGives (Mine w base scope s (form_counted thy whole values)) (ev body (bound locals vs variables) q)
       unfolding form_value
@@ -321,12 +331,8 @@ module _ (w : World) (base : Ground) (threaded : IsThreaded w) (followed : Lawfu
             grown = Extends-then grown e.mine.grown;
             known = e.mine.known;
             ends =
-                ends_then (λ budget nest start. caller thy budget nest (creator_of (definition w stobj)) [] start)
-                (λ o budget nest start. then_found (form_counted thy producer ((stobj, o) ∷ values) budget nest start) (λ v calls. form_counted thy body (bind_others stobj locals (element_values locals 0 v) values) budget nest calls))
-                made (one_thing (all_held z.symbols (held_after outer expected outer_lists e.mine.last) given)) creator.makes
-                (ends_then logic (λ v. form_counted thy body (bind_others stobj locals (element_values locals 0 v) values)) (one_thing things) (one_thing (all_held z.symbols (held_after outer expected outer_lists e.mine.last) given)) producer_ends
-                (subst (λ (os : List Thing). Ends (form_counted thy body (bind_others stobj locals os values)) (one_thing (all_held z.symbols (held_after outer expected outer_lists e.mine.last) given))) (sym things_are)
-                (subst (λ (os : List Thing). Ends (form_counted thy body (bind_others stobj locals things values)) (one_thing os)) (sym (outputs_returned outer z.symbols expected expected outer_lists e.mine.last given e.outputs (λ x h. h))) e.mine.ends)));
+                ended_as w (form_counted thy body (bind_others stobj locals things values)) (form_counted thy whole values) (all_held z.symbols (held_after outer expected outer_lists e.mine.last) given) ends_whole
+                (subst (λ (os : List Thing). Ended w (form_counted thy body (bind_others stobj locals things values)) os) (sym (outputs_returned outer z.symbols expected expected outer_lists e.mine.last given e.outputs (λ x h. h))) e.mine.ends);
           })
           (did w base threaded limit thy ev el h f c mode outer body None expected
           (record { suited_world = suited_world; runs = n; accepted = (of_with_local c mode scope formal expected stobj locals producer body accepted).1; formed = formed_body; suited = suited_body })

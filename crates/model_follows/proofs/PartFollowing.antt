@@ -31,9 +31,10 @@ use Rattle.model_in_place.proofs.CallMeeting.{on_lists, Meets}
 use Rattle.model_in_place.proofs.PartMeeting.{AreActuals, IsActual, actual_is, append_nothing, one_there, both_hold}
 use Rattle.model_follows.specs.Costs.{Counted, caller, form_counted, Ends}
 use Rattle.model_follows.specs.FollowedWorlds.{IsSuited, AreSuited}
-use Rattle.model_follows.specs.Follows.{one_thing, KnowsShown, KnowsAll, table_of, IfGives}
+use Rattle.model_follows.specs.Follows.{KnowsShown, KnowsAll, table_of, IfGives}
 use Rattle.model_follows.proofs.CostLemmas.{costs_nothing, ends_more}
 use Rattle.model_follows.proofs.ThingLemmas.{AllIn, outputs_in, shown_stays, things_stay}
+use Rattle.model_follows.proofs.EndedLemmas.{Ended, ended_one, ended_single}
 use Rattle.model_follows.proofs.HeldThings.{Ground, Held, held, all_held, itself}
 use Rattle.model_follows.proofs.FormalThings.{AreSeen}
 use Rattle.model_follows.proofs.Following.{Suited, gives_map, gives_then, unchanged, Mine, Stage, Follows, Did, did, quiet_after, mine_before}
@@ -99,7 +100,7 @@ module _ (w : World) (base : Ground) (threaded : IsThreaded w) (limit : ℕ) (sy
     beside : StateOf (Store ℕ)
     stage : Stage w base scope variables u beside values
     quiet : IsQuiet scope s u before stage.lists
-    ends : Ends (form_counted book form values) (one_thing (all_held u.symbols stage.lists vs))
+    ends : Ended w (form_counted book form values) (all_held u.symbols stage.lists vs)
 
   module _ (ev : Evaluator ℕ) (el : EvaluatorOf ℕ (Store ℕ)) (h : Meets w threaded base.table.packages limit ev el) (f : Follows w base book ev)
       (c : World) (mode : Mode) (scope : Scope) (suited_world : Suited w base c) (n : mode ≢ Logic) (variables : Variables ℕ) (values : Values) where
@@ -121,7 +122,7 @@ module _ (w : World) (base : Ground) (threaded : IsThreaded w) (limit : ℕ) (sy
           beside = d.to;
           stage = quiet_after w base scope variables s t values (form_counted book form values) vs u stage d;
           quiet = record { grown = d.mine.grown; lists = λ x o. unchanged w scope one_ordinary s t u d.to d.moves x refl; same = λ x o. refl };
-          ends = subst (λ (os : List Thing). Ends (form_counted book form values) (one_thing os)) (plain_held scope u.symbols d.mine.last stage.lists vs d.outputs) d.mine.ends;
+          ends = subst (λ (os : List Thing). Ended w (form_counted book form values) os) (plain_held scope u.symbols d.mine.last stage.lists vs d.outputs) d.mine.ends;
         })
         (did w base threaded limit book ev el h f c mode scope form None one_ordinary (record { suited_world = suited_world; runs = n; accepted = accepted; formed = formed; suited = suited }) variables s t values stage)
     part_quiet (worlds.Stobj x) form s t accepted formed suited q stage =
@@ -137,8 +138,9 @@ module _ (w : World) (base : Ground) (threaded : IsThreaded w) (limit : ℕ) (sy
           stage = stage;
           quiet = quiet_self scope s stage.lists;
           ends =
-              subst (λ (z : ℕ). Ends (form_counted book form values) (stage.lists z)) (sym d.outputs.0.0)
-              (variable_ends scope form variables s t values stage x q.0 d.outputs.0.1 (sym e ∙ ap (λ (z : ℕ). StobjNamed z) d.outputs.0.0));
+              ended_one w (form_counted book form values) (stage.lists y ∷ [])
+              (subst (λ (z : ℕ). Ends (form_counted book form values) (stage.lists z)) (sym d.outputs.0.0)
+              (variable_ends scope form variables s t values stage x q.0 d.outputs.0.1 (sym e ∙ ap (λ (z : ℕ). StobjNamed z) d.outputs.0.0)));
         }
 
         by_value : (a : Outcome ℕ) → a ≡ Gives (variable_in by_number variables x ∷ []) s → IfGives (Did w base scope (worlds.Stobj x ∷ []) s t (form_counted book form values)) a
@@ -187,7 +189,7 @@ module _ (w : World) (base : Ground) (threaded : IsThreaded w) (limit : ℕ) (sy
             let thing : Thing = held u.symbols d.stage.lists x in
             gives_map (Mine w base scope u (λ budget nest start. form_values book budget (caller book budget nest) forms values (before ++ thing ∷ []) (λ os calls. logic os budget nest calls) start)) _
             (in_order (on_lists w threaded base.table.packages limit) ev forms variables (done ++ x ∷ []) go u)
-            (λ ws z m. mine_before w base scope s u _ _ ws z d.quiet.grown (λ r e. ends_more book form forms values before logic thing r d.ends e) m)
+            (λ ws z m. mine_before w base scope s u _ _ ws z d.quiet.grown (λ r e. ends_more book form forms values before logic thing r (ended_single w (form_counted book form values) thing d.ends) e) m)
             (rest x thing u d.beside d.stage
             (λ us all z r a same stage_z quiet_z known.
             subst (λ (os : List Thing). IfGives (Mine w base scope z (logic os)) (go all z))
@@ -238,7 +240,7 @@ module _ (w : World) (base : Ground) (threaded : IsThreaded w) (limit : ℕ) (sy
             let thing : Thing = held u.symbols d.stage.lists (Plain o) in
             gives_map (Mine w base scope u (λ budget nest start. form_values book budget (caller book budget nest) forms values (before ++ thing ∷ []) (λ os calls. logic os budget nest calls) start)) _
             (in_order (on_lists w threaded base.table.packages limit) ev forms variables (done ++ Plain o ∷ []) go u)
-            (λ ws z m. mine_before w base scope s u _ _ ws z d.quiet.grown (λ r e. ends_more book form forms values before logic thing r d.ends e) m)
+            (λ ws z m. mine_before w base scope s u _ _ ws z d.quiet.grown (λ r e. ends_more book form forms values before logic thing r (ended_single w (form_counted book form values) thing d.ends) e) m)
             (rest (Plain o) thing u d.beside d.stage
             (λ us all z r a seen same stage_z quiet_z known.
             subst (λ (os : List Thing). IfGives (Mine w base scope z (logic os)) (go all z))

@@ -29,7 +29,7 @@ use Rattle.model_eval_laws.specs.Scope.{names}
 use Rattle.model_accepted.specs.Threaded.{layout_of, IsFormed, Suits, IsExport, IsThreaded}
 use Rattle.model_accepted.specs.StobjScopes.{IsStobj, AreVariables, AreOutputs}
 use Rattle.model_follows.specs.FollowedWorlds.{IsSuited}
-use Rattle.model_follows.specs.Follows.{one_thing, KnowsAll, table_of, IsSound, AreFitting, LeavesUnreturned, IfGives}
+use Rattle.model_follows.specs.Follows.{KnowsAll, table_of, IsSound, AreFitting, LeavesUnreturned, IfGives}
 use Rattle.model_follows.specs.Held.{Ground, Held, all_held, ground_book, AreKin, itself, AreHeld, AreSeenIn, Lawful}
 
 -- ---- obligations over values
@@ -55,13 +55,18 @@ OutputsCorrespond b d (k ∷ ks) (e ∷ es) [] = ⊥
 OutputsCorrespond b d (Ordinary ∷ ks) (e ∷ es) (l ∷ ls) = (e ≡ l) × OutputsCorrespond b d ks es ls
 OutputsCorrespond b d (Stobj x ∷ ks) (e ∷ es) (l ∷ ls) = CallHolds b d.corr (e ∷ l ∷ []) × IsWellFormed b d l × Symbols (HasPackage b) l × OutputsCorrespond b d ks es ls
 
--- {CORRESPONDENCE} and {PRESERVED} of an export: where the lists correspond and the guard holds of the abstract one, both
--- functions end, with outputs that correspond, and the logic function gives no more than these
+-- the symbols of each are of known packages
+abbrev pub HaveHomes : Theory → List Thing → Type 0
+HaveHomes b [] = Unit {0}
+HaveHomes b (o ∷ os) = Symbols (HasPackage b) o × HaveHomes b os
+
+-- {CORRESPONDENCE} and {PRESERVED} of an export, for as many arguments as it has: where the lists correspond and the guard holds of the abstract one, both
+-- functions end, with outputs that correspond; of several outputs the values have them as their first elements
 pub record ExportHolds (b : Theory) (d : AbstractDescriptor) (f : FunctionOfAbstract) : Type 0 where
-  pub holds : (os : List Thing) (c a g : Thing) → CallHolds b d.corr (c ∷ a ∷ []) → IsWellFormed b d a
+  pub holds : (os : List Thing) (c a g : Thing) → length (arguments_with f.signature.ins os a) ≡ length f.signature.ins → HaveHomes b os → Symbols (HasPackage b) a → CallHolds b d.corr (c ∷ a ∷ []) → IsWellFormed b d a
       → EndsWith b f.guard (bind f.formals (arguments_with f.signature.ins os a) []) g → is_nil by_name g ≡ false
       → (e : Thing) × (l : Thing) × CallEndsWith b f.exec (arguments_with f.signature.ins os c) e × CallEndsWith b f.logic (arguments_with f.signature.ins os a) l
-      × OutputsCorrespond b d f.signature.outs (out_parts b 0 f.signature.outs e) (out_parts b 0 f.signature.outs l) × (l ≡ one_thing (out_parts b 0 f.signature.outs l))
+      × OutputsCorrespond b d f.signature.outs (out_parts b 0 f.signature.outs e) (out_parts b 0 f.signature.outs l)
 
 -- the same of a new stobj
 pub record CreatorHolds (b : Theory) (x : ℕ) (d : AbstractDescriptor) : Type 0 where
@@ -116,7 +121,8 @@ pub record IsFollowedBeside (w : World) (base : Ground) (threaded : IsThreaded w
 
 -- ---- the law
 
--- the lists of L after a form, of which that of a stobj that is not returned stays
+-- the lists of L after a form, of which that of a stobj that is not returned stays; and L's value, which has the outputs as
+-- its parts
 pub record FollowedWith (w : World) (base : Ground) (scope : Scope) (expected : List Out) (form : Core) (values : Values) (s : State ℕ) (lists : Held) (given : List (Shown ℕ)) (u : State ℕ) : Type 0 where
   pub outputs : AreOutputs scope expected given
   pub unreturned : LeavesUnreturned scope expected s u
@@ -128,7 +134,9 @@ pub record FollowedWith (w : World) (base : Ground) (scope : Scope) (expected : 
   pub last : Held
   pub kin : AreKin w base itself scope u.symbols u.stobjs last
   pub leaves : (x : ℕ) → has (classes.stobjs expected) x ≡ false → last x ≡ lists x
-  pub ends : EndsWith (ground_book w base) form values (one_thing (all_held u.symbols last given))
+  pub value : Thing
+  pub ends : EndsWith (ground_book w base) form values value
+  pub parts : out_parts (ground_book w base) 0 expected value ≡ all_held u.symbols last given
 
 pub record LogicFollowsAbstract : Type 0 where
   pub follows : (w : World) (base : Table) (symbols : List QualifiedName) (threaded : IsThreaded w) → IsFollowedBeside w (abstract_ground w base symbols) threaded

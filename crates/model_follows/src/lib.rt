@@ -4,7 +4,7 @@
 ghost use Rattle.model_follows.specs.Abstract.{LogicFollowsAbstract};
 ghost use Rattle.model_follows.specs.AbstractLists.{LogicFollowsAbstractOnLists};
 ghost use Rattle.model_follows.specs.Corresponding.{LogicFollowsOnLists};
-ghost use Rattle.model_follows.specs.CostLaw.{CallsCost, CallsEnd};
+ghost use Rattle.model_follows.specs.CostLaw.{CallsCost, CallsEnd, FormsCost};
 ghost use Rattle.model_follows.specs.Example.{IsExampleFollowed};
 ghost use Rattle.model_follows.specs.Follows.{LogicFollows};
 ghost use Rattle.model_follows.specs.PartLaw.{PartsEnd};
@@ -26,6 +26,12 @@ pub fn logic_follows_on_lists()
 #[tactic(auto, using(crate::proofs::LaterLemmas::calls_cost))]
 pub fn calls_cost()
     ensures { CallsCost }
+{}
+
+/// The same of a form.
+#[tactic(auto, using(crate::proofs::LaterLemmas::forms_cost))]
+pub fn forms_cost()
+    ensures { FormsCost }
 {}
 
 /// What is asked of a world holds of one with a stobj, a child and a function that writes the child.

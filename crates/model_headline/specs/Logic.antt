@@ -46,8 +46,7 @@ pub record LogicGives (s : Session) (scope : Scope) (expected : List Out) (form 
 -- of an accepted form ends with values, the logic's value of the form on lists that correspond ends, with what corresponds to
 -- them, and the lists correspond afterwards. Of several outputs the logic's value has the outputs as its first elements: a logic
 -- function that does not run may give a longer list.
--- NOT PROVED as it stands here: the law of `model_follows` asks more of the obligations than these say, and that the value of
--- several outputs is their very list.
+-- Proved in `model_headline_laws` (`logic_follows`).
 pub record LogicFollows : Type 0 where
   pub follows : (s : Session) → IsMade s → ObligationsHold (theory_of s.environment s.symbols)
       → (mode : Mode) (scope : Scope) (form : Core) (expected : List Out) → mode ≢ Logic → first_fault s.environment.world mode scope form expected ≡ None

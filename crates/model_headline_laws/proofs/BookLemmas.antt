@@ -1,7 +1,6 @@
 -- In place equals applicative, of whole books.
 use Rattle.std.proofs.Common.{◌≡◌, ℕ, zero, suc, ◌+◌, ◌-◌, List, length, true, Option, Some, None, refl, ap, ◌∙◌}
 use Rattle.std.specs.Prelude.{drop}
-use Rattle.model_objects.specs.Object.{Object}
 use Rattle.model_text.specs.Next.{Next, Stands, Nothing, End, Faulty, next_at}
 use Rattle.model_events.specs.Events.{Limits}
 use Rattle.model_books.specs.Opening.{Session, opening_session}

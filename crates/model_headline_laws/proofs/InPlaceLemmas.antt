@@ -19,7 +19,7 @@ use Rattle.model_expansion_forms.proofs.LawLemmas.{forms_are_well_called}
 use Rattle.model_stobjs.specs.Heads.{event_heads, is_skipped, is_unsupported}
 use Rattle.model_events.specs.Events.{Limits, setting}
 use Rattle.model_books.specs.Opening.{Session}
-use Rattle.model_books.specs.Commands.{Answered, Ways, way_of, headed_way, keyword_way, ways, live_scope, evaluated_outcome, core_outcome, expanded_outcome, command}
+use Rattle.model_books.specs.Commands.{Ways, way_of, headed_way, keyword_way, ways, live_scope, evaluated_outcome, core_outcome, expanded_outcome, command}
 use Rattle.model_made.specs.Made.{IsMade}
 use Rattle.model_made.proofs.FormLemmas.{formed_of}
 use Rattle.model_made.proofs.CommandLemmas.{made_sessions_lawful}

@@ -1,1 +1,4 @@
 pub mod Instances
+pub mod FromValues
+pub mod Creators
+pub mod Expressions

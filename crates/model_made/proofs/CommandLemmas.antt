@@ -91,7 +91,7 @@ sessions_are_threaded = record {
 
 -- ---- names of stobjs
 
-more_names : (w new : World) → stobj_names (w ++ new) ≡ stobj_names w ++ stobj_names new
+pub more_names : (w new : World) → stobj_names (w ++ new) ≡ stobj_names w ++ stobj_names new
 more_names [] new = refl
 more_names (d ∷ w) new = go (stobj_in d) (more_names w new)
   where
@@ -111,7 +111,7 @@ object_is_named (OfAbstract f) x e = cc
 object_is_named (Named name formals) x e = cc
 object_is_named (Signed name formals signature executable) x e = cc
 
-object_stands : (w : World) (x : ℕ) → is_among x (stobj_names w) ≡ true → StandsIn w x
+pub object_stands : (w : World) (x : ℕ) → is_among x (stobj_names w) ≡ true → StandsIn w x
 object_stands [] x e = false_true e
 object_stands (d ∷ w) x e = by_name (nat_eq x (definition_name d)) refl (object_stands w x)
   where

@@ -5,6 +5,7 @@ use Rattle.std.specs.Option.{option_or, option_map_or}
 use Rattle.std.specs.Map.{lookup}
 use Rattle.std.specs.List.{flat_map, zip}
 use Rattle.std.proofs.lemmas.Bool.{eqb-true}
+use Rattle.std.proofs.lemmas.Bool.Decides.{nat_tests}
 use Rattle.std.proofs.lemmas.List.{length-map, length-replicate}
 use Rattle.model_objects.specs.Object.{Object}
 use Rattle.model_symbols.specs.Symbols.{Package}
@@ -43,7 +44,7 @@ use Rattle.model_made.proofs.GrowthLemmas.{Brings, suits, stands_still, takes_st
 use Rattle.model_made.proofs.EventLemmas.{IfGrants, grants_unless, grants_needing, none_some}
 use Rattle.model_made.proofs.MemberLemmas.{IsIn}
 use Rattle.model_made.proofs.NestingLemmas.{see, concrete_at, deep_enough, within_still}
-use Rattle.model_made.proofs.DraftLemmas.{none_or}
+use Rattle.model_made.proofs.DraftLemmas.{none_or, first_free}
 use Rattle.model_made.proofs.GuardLemmas.{IsOwnNode, renamed_own, with_own}
 use Rattle.model_made.proofs.AbstractLemmas.{named_length, are_formals, same_abstracted, only_abstracted, some_abstracted, scope_is, differ_still, few_differ, good_differ, is_only_one, all_only, only_is, IsThere, names_there, HasSignature, has_signature_of, arity_is}
 
@@ -245,6 +246,33 @@ module _ (w : World) (l : IsLawfulWorld w) (d : AbstractDescriptor) (accepted : 
       go (inr few) =
           let long : length (export_formals w d f) ≡ length (abstracts.formals w f.logic) = named_length w d.name (signature w f.exec).ins (abstracts.formals w f.logic) (same_length f i) in
           few_differ (export_formals w d f) (omega (arith, long, few))
+
+  -- ---- no formal is named like the foundation
+
+  foundation_differs : nat_eq d.foundation d.name ≡ false
+  foundation_differs = go (nat_eq d.foundation d.name) refl
+    where
+      go : (b : Bool) → nat_eq d.foundation d.name ≡ b → b ≡ false
+      go true e =
+          none_some (definition w d.foundation)
+          (ap (definition w) (eqb-true d.foundation d.name e) ∙ (first_free w d.name (d.recognizer.name ∷ d.creator.name ∷ abstracts.export_names d) names_free).0.nothing) (concrete_at w d.foundation foundation_concrete).there
+      go false e = refl
+
+  formals_apart : (exec : Option Definition) (ks : List Out) (es xs : List ℕ) → length es ≡ length ks → abstracts.are_good_formals w d exec ks es xs ≡ true → classes.has (with_stobj_named w d.name ks xs) d.foundation ≡ false
+  formals_apart exec [] es xs l e = refl
+  formals_apart exec (k ∷ ks) [] xs l e = absurd (let never : ⊥ = omega (arith, l) in never)
+  formals_apart exec (k ∷ ks) (g ∷ es) [] l e = refl
+  formals_apart exec (Ordinary ∷ ks) (g ∷ es) (x ∷ xs) l e =
+      let both = both_true (abstracts.is_good_formal w d exec x g) (abstracts.are_good_formals w d exec ks es xs) e in
+      let apart = both_true (not (nat_eq x d.foundation)) _ (both_true (not (nat_eq x d.name)) _ both.0).1 in
+      rw (turned x d.foundation (not_true (nat_eq x d.foundation) apart.0), formals_apart exec ks es xs (omega (arith, l)) both.1) refl
+    where
+      turned : (a b : ℕ) → nat_eq a b ≡ false → nat_eq b a ≡ false
+      turned a b e = grind (arith, nat_tests)
+  formals_apart exec (Stobj c ∷ ks) (g ∷ es) (x ∷ xs) l e = rw (foundation_differs, formals_apart exec ks es xs (omega (arith, l)) e) refl
+
+  pub export_apart : (f : AbstractFunction) → IsIn f d.exports → classes.has (export_formals w d f) d.foundation ≡ false
+  export_apart f i = formals_apart (definition w f.exec) (signature w f.exec).ins (abstracts.formals w f.exec) (abstracts.formals w f.logic) (exec_long f i) (matches f i).good
 
   -- ---- entries by their names
 

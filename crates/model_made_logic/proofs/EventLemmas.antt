@@ -27,7 +27,7 @@ use Rattle.model_stobjs.specs.Descriptors.{WrittenStobj, written_stobj, MadeName
 use Rattle.model_stobjs.specs.Abstracts as abstracts
 use Rattle.model_stobjs.specs.Abstracts.{WrittenAbstract, written_abstract, slots, makings, filled, function_refusal, made_then, abstract_then, abstract_read, abstract_entries}
 use Rattle.model_events.specs.Constants.{valued, constant_evaluated, constant_value, name_and_form, constant_then, constant_read, text_and_form, clash_refusal, exists_already, package_of, importing, package_then, package_read, current_read, only_text, current_then, visible_package}
-use Rattle.model_events.specs.Macros.{WrittenMacro, written_macro, macro_formals, body_then, macro_then, macro_read}
+use Rattle.model_events.specs.Macros.{written_macro, macro_formals, body_then, macro_then, macro_read}
 use Rattle.model_events.specs.Functions as functions
 use Rattle.model_events.specs.Functions.{Draft, drafts_of, Candidate, candidate_expanded, all_expanded, with_names, signatures, signed, defined, members, ruled, candidates_then, drafts_then, functions_then, written_functions, functions_read}
 use Rattle.model_made.specs.Lawful.{IsLawfulWorld}

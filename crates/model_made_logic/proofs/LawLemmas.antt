@@ -43,7 +43,7 @@ after_commands s lawful known (t ∷ ts) read =
     let there : IsLawfulSession (knowing s t.read) = record { world = lawful.world; live = lawful.live; fits = lawful.fits } in
     after_commands (after_step s t) (commands_stay_lawful.command t.limits (knowing s t.read) t.form there) (command_known t.limits (knowing s t.read) there (read_known s t known read.0) t.form read.0.known) ts read.1
 
-made_known : (s : Session) → IsMade s → IsKnownSession s
+pub made_known : (s : Session) → IsMade s → IsKnownSession s
 made_known s m = subst IsKnownSession (sym m.2) (after_commands opening_session opening_is_lawful.session opening_known m.0 m.1)
 
 -- the symbols of `T` and `NIL`, as symbols are added
@@ -85,7 +85,7 @@ after_stocked s lawful stocked (t ∷ ts) =
     let there : IsLawfulSession (knowing s t.read) = record { world = lawful.world; live = lawful.live; fits = lawful.fits } in
     after_stocked (after_step s t) (commands_stay_lawful.command t.limits (knowing s t.read) t.form there) (command_stocked t.limits (knowing s t.read) lawful.world stocked t.form) ts
 
-made_stocked : (s : Session) → IsMade s → IsStocked s.environment.world
+pub made_stocked : (s : Session) → IsMade s → IsStocked s.environment.world
 made_stocked s m = subst (λ (q : Session). IsStocked q.environment.world) (sym m.2) (after_stocked opening_session opening_is_lawful.session opening_stocked m.0)
 
 pub made_stobjs_stocked : MadeStobjsAreStocked
@@ -110,7 +110,8 @@ functions_suited : (s : Session) → IsMade s → (x : ℕ) (f : Function) → d
     → IsSuited s.environment.world (length s.symbols) f.guard × IsSuited s.environment.world (length s.symbols) f.body
 functions_suited s m x f e runs =
     let w = s.environment.world in
-    function_suited w (made_stocked s m) (abstracts_made w (made_stocked s m)) (length s.symbols) f ((made_sessions_lawful.lawful s m).world.lawful.each x (Defined f) e runs) ((made_known s m).definitions.each x (Defined f) e) ((made_stocked s m).each x (Defined f) e)
+    let h = (made_stocked s m).each x (Defined f) e in
+    function_suited w (made_stocked s m) (abstracts_made w (made_stocked s m)) (length s.symbols) f ((made_sessions_lawful.lawful s m).world.lawful.each x (Defined f) e runs) ((made_known s m).definitions.each x (Defined f) e) (h.0, h.1)
 
 pub made_worlds_followed : MadeWorldsAreFollowed
 made_worlds_followed = record {

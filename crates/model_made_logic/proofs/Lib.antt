@@ -10,8 +10,10 @@ pub mod OpeningLemmas
 pub mod WayLemmas
 pub mod CommandLemmas
 pub mod StockLemmas
+pub mod OutputLemmas
 pub mod SeveralLemmas
 pub mod AbstractStockLemmas
 pub mod StockCommands
 pub mod SuitedLemmas
 pub mod LawLemmas
+pub mod FollowedLemmas

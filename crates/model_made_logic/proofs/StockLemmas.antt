@@ -13,7 +13,7 @@ use Rattle.model_lists.specs.Layouts.{Layout, field_layout}
 use Rattle.model_lists_laws.specs.Laws.{HasInitials}
 use Rattle.model_terms.specs.declared.role.Role.{Role}
 use Rattle.model_terms.specs.declared.role.Role.TheVariants as role
-use Rattle.model_terms.specs.Worlds.{World, AbstractDescriptor, FunctionOfAbstract, Definition, Out, Ordinary, Stobj, Shape, Scalar, Array, Hash, Child, Children, Field, Descriptor, GeneratedFunction, definition, Primitive, Defined, Macro, Constant, Concrete, Generated, Abstract, OfAbstract, Named, Signed}
+use Rattle.model_terms.specs.Worlds.{World, AbstractFunction, AbstractDescriptor, FunctionOfAbstract, Definition, Signature, Out, Ordinary, Stobj, Shape, Scalar, Array, Hash, Child, Children, Field, Descriptor, GeneratedFunction, definition, Primitive, Defined, Macro, Constant, Concrete, Generated, Abstract, OfAbstract, Named, Signed}
 use Rattle.model_terms.specs.declared.role.AbstractRole.TheVariants as abstract_role
 use Rattle.model_terms.specs.Accessors.{descriptor_in, descriptor_of, held_by, held_in, is_kept_back, is_internal}
 use Rattle.model_eval.specs.StobjLayouts.{most_nested, field_type, shape_layout, fields_layout, defined_layout, layout_within}
@@ -34,8 +34,17 @@ use Rattle.model_logic.specs.Logic.{creator_of}
 use Rattle.model_made.proofs.WorldLemmas.{EachDefinition, named, definition_old, definition_new}
 use Rattle.model_made.proofs.EventLemmas.{IfGrants, grants_unless, grants_needing}
 use Rattle.model_made.proofs.DraftLemmas.{none_or, first_free}
+use Rattle.model_prims.specs.declared.prim.Prim.{Prim}
+use Rattle.model_prims.specs.declared.prim.Prim.TheVariants as prim
+use Rattle.model_prims.specs.declared.prim.Relation.TheVariants as relation
+use Rattle.model_prims.specs.declared.prim.Listing.TheVariants as listing
+use Rattle.model_expansion.specs.Words.{equal_word, nth_word}
+use Rattle.model_made_logic.specs.Exports.{IsAmong, IsWrittenAs, prim_of}
 use Rattle.model_made_logic.proofs.ParseLemmas.{EachOne, each_both}
-use Rattle.model_terms.specs.Classes.{has}
+use Rattle.model_terms.specs.Classes.{stobjs, has, repeats, class_in, class_of}
+use Rattle.model_terms.specs.Outputs.{signature_in}
+use Rattle.model_made.specs.Lawful.{IsConcreteIfAny, stobj_names}
+use Rattle.model_made.proofs.NestingLemmas.{concrete_at}
 
 abbrev same : Object ℕ → Object ℕ
 same o = o
@@ -55,6 +64,11 @@ HaveInitials [] = Unit {0}
 HaveInitials (f ∷ fs) = HasInitial f.shape × HaveInitials fs
 
 -- ---- functions
+
+-- there is an output
+abbrev pub HasOutput : List Out → Type 0
+HasOutput [] = ⊥
+HasOutput (o ∷ os) = Unit {0}
 
 -- how a function of a field is called, where forms may call it
 abbrev pub TaskFits : ℕ → Shape → Role → List Out → Type 0
@@ -77,6 +91,7 @@ pub record ComesWith (w : World) (g : GeneratedFunction) : Type 0 where
   pub class : ℕ
   pub there : definition w g.stobj ≡ Some (Concrete descriptor class)
   pub kind : IsOwn g ⊎ IsOfField descriptor g
+  pub output : HasOutput g.signature.outs
 
 -- the creator of a stobj is there
 pub record CreatorThere (w : World) (d : Descriptor) : Type 0 where
@@ -85,11 +100,59 @@ pub record CreatorThere (w : World) (d : Descriptor) : Type 0 where
   pub makes : creator.role ≡ role.Creator
   pub made_of : creator.stobj ≡ d.name
 
--- the creator of an abstract stobj is there
+-- a concrete stobj stands under this name
+pub record ConcreteThere (w : World) (x : ℕ) : Type 0 where
+  pub descriptor : Descriptor
+  pub class : ℕ
+  pub there : definition w x ≡ Some (Concrete descriptor class)
+
+abbrev concrete_more : (w new : World) (x : ℕ) → ConcreteThere w x → ConcreteThere (w ++ new) x
+concrete_more w new x h = record { descriptor = h.descriptor; class = h.class; there = definition_old w new x (Concrete h.descriptor h.class) h.there }
+
+-- a function of an abstract stobj stands under its name, with its logic function
+pub record StandsFor (w : World) (f : AbstractFunction) : Type 0 where
+  pub function : FunctionOfAbstract
+  pub there : definition w f.name ≡ Some (OfAbstract function)
+  pub logic : function.logic ≡ f.logic
+
+-- the creator of an abstract stobj is there, its foundation, and each of its functions
 pub record AbstractThere (w : World) (d : AbstractDescriptor) : Type 0 where
+  pub foundation : ConcreteThere w d.foundation
+  pub exec : d.creator.exec ≡ foundation.descriptor.creator
   pub creator : FunctionOfAbstract
   pub there : definition w d.creator.name ≡ Some (OfAbstract creator)
   pub makes : creator.logic ≡ d.creator.logic
+  pub functions : (f : AbstractFunction) → IsAmong f (d.recognizer ∷ d.creator ∷ d.exports) → StandsFor w f
+
+-- what an export runs: a function of the foundation, which it returns once at most
+pub record ExecThere (w : World) (foundation exec : ℕ) : Type 0 where
+  pub function : Definition
+  pub found : definition w exec ≡ Some function
+  pub signature : Signature
+  pub signed : signature_in function ≡ Some signature
+  pub ins : stobjs signature.ins ≡ foundation ∷ []
+  pub outs : repeats (stobjs signature.outs) ≡ false
+
+-- the export that the function is, in every world in which its functions are the same
+pub record ExportThere (w : World) (d : AbstractDescriptor) (f : FunctionOfAbstract) : Type 0 where
+  pub export : AbstractFunction
+  pub among : IsAmong export d.exports
+  pub logic : Definition
+  pub logic_there : definition w export.logic ≡ Some logic
+  pub function : Definition
+  pub function_there : definition w export.exec ≡ Some function
+  pub written : (v : World) → definition v export.logic ≡ Some logic → definition v export.exec ≡ Some function → IsWrittenAs v d export f
+
+pub export_more : (w new : World) (d : AbstractDescriptor) (f : FunctionOfAbstract) → ExportThere w d f → ExportThere (w ++ new) d f
+export_more w new d f h = record {
+  export = h.export;
+  among = h.among;
+  logic = h.logic;
+  logic_there = definition_old w new h.export.logic h.logic h.logic_there;
+  function = h.function;
+  function_there = definition_old w new h.export.exec h.function h.function_there;
+  written = h.written;
+}
 
 -- a function of an abstract stobj has its stobj, and a logic function that is of none; without the stobj it is the creator
 pub record OfAbstractThere (w : World) (f : FunctionOfAbstract) : Type 0 where
@@ -101,23 +164,38 @@ pub record OfAbstractThere (w : World) (f : FunctionOfAbstract) : Type 0 where
   pub recognizer : f.role ≡ abstract_role.Recognizer → (f.logic ≡ descriptor.recognizer.logic) × (f.signature.ins ≡ Stobj f.stobj ∷ [])
   pub plain : (k : ℕ) → f.signature.ins ≡ replicate k Ordinary → f.signature.outs ≡ Stobj f.stobj ∷ []
   pub several : EachNode HasSeveral f.guard
+  pub output : HasOutput f.signature.outs
+  pub apart : f.role ≡ abstract_role.Export → has f.formals descriptor.foundation ≡ false
+  pub exec : f.role ≡ abstract_role.Export → ExecThere w descriptor.foundation f.exec
+  pub export : f.role ≡ abstract_role.Export → ExportThere w descriptor f
 
 -- ---- worlds
 
 abbrev pub StockedDefinition : World → Definition → Type 0
 StockedDefinition w (Primitive name row) = Unit {0}
-StockedDefinition w (Defined f) = EachNode HasSeveral f.guard × EachNode HasSeveral f.body
+StockedDefinition w (Defined f) = EachNode HasSeveral f.guard × EachNode HasSeveral f.body × HasOutput f.signature.outs
 StockedDefinition w (Macro name formals body) = Unit {0}
 StockedDefinition w (Constant name value) = Unit {0}
-StockedDefinition w (Concrete d class) = HaveInitials d.fields × CreatorThere w d
+StockedDefinition w (Concrete d class) = HaveInitials d.fields × CreatorThere w d × ConcreteThere w class
 StockedDefinition w (Generated g) = ComesWith w g
 StockedDefinition w (Abstract d) = AbstractThere w d
 StockedDefinition w (OfAbstract f) = OfAbstractThere w f
 StockedDefinition w (Named name formals) = Unit {0}
-StockedDefinition w (Signed name formals signature executable) = Unit {0}
+StockedDefinition w (Signed name formals signature executable) = HasOutput signature.outs
 
 pub record IsStocked (w : World) : Type 0 where
   pub each : (x : ℕ) (d : Definition) → definition w x ≡ Some d → StockedDefinition w d
+  pub equal : prim_of (definition w equal_word) ≡ Some (prim.Relation relation.Equal)
+  pub nth : prim_of (definition w nth_word) ≡ Some (prim.Listing listing.Nth)
+  pub once : repeats (stobj_names w) ≡ false
+
+-- a primitive stays one
+pub prim_more : (w new : World) (x : ℕ) (p : Prim) → prim_of (definition w x) ≡ Some p → prim_of (definition (w ++ new) x) ≡ Some p
+prim_more w new x p h = go (definition w x) refl h
+  where
+    go : (v : Option Definition) → definition w x ≡ v → prim_of v ≡ Some p → prim_of (definition (w ++ new) x) ≡ Some p
+    go None e g = cc
+    go (Some d) e g = ap prim_of (definition_old w new x d e) ∙ g
 
 pub stocked_more : (w new : World) (d : Definition) → StockedDefinition w d → StockedDefinition (w ++ new) d
 stocked_more w new (Primitive name row) h = tt
@@ -125,9 +203,18 @@ stocked_more w new (Defined f) h = h
 stocked_more w new (Macro name formals body) h = tt
 stocked_more w new (Constant name value) h = tt
 stocked_more w new (Concrete d class) h =
-    (h.0, record { creator = h.1.creator; there = definition_old w new d.creator (Generated h.1.creator) h.1.there; makes = h.1.makes; made_of = h.1.made_of })
-stocked_more w new (Generated g) h = record { descriptor = h.descriptor; class = h.class; there = definition_old w new g.stobj (Concrete h.descriptor h.class) h.there; kind = h.kind }
-stocked_more w new (Abstract d) h = record { creator = h.creator; there = definition_old w new d.creator.name (OfAbstract h.creator) h.there; makes = h.makes }
+    (h.0, record { creator = h.1.creator; there = definition_old w new d.creator (Generated h.1.creator) h.1.there; makes = h.1.makes; made_of = h.1.made_of }, concrete_more w new class h.2)
+stocked_more w new (Generated g) h = record { descriptor = h.descriptor; class = h.class; there = definition_old w new g.stobj (Concrete h.descriptor h.class) h.there; kind = h.kind; output = h.output }
+stocked_more w new (Abstract d) h = record {
+  foundation = concrete_more w new d.foundation h.foundation;
+  exec = h.exec;
+  creator = h.creator;
+  there = definition_old w new d.creator.name (OfAbstract h.creator) h.there;
+  makes = h.makes;
+  functions = λ f i.
+      let g : StandsFor w f = h.functions f i in
+      record { function = g.function; there = definition_old w new f.name (OfAbstract g.function) g.there; logic = g.logic };
+}
 stocked_more w new (OfAbstract f) h = record {
   descriptor = h.descriptor;
   stobj = definition_old w new f.stobj (Abstract h.descriptor) h.stobj;
@@ -137,9 +224,15 @@ stocked_more w new (OfAbstract f) h = record {
   recognizer = h.recognizer;
   plain = h.plain;
   several = h.several;
+  output = h.output;
+  apart = h.apart;
+  exec = λ e.
+      let x : ExecThere w h.descriptor.foundation f.exec = h.exec e in
+      record { function = x.function; found = definition_old w new f.exec x.function x.found; signature = x.signature; signed = x.signed; ins = x.ins; outs = x.outs };
+  export = λ e. export_more w new h.descriptor f (h.export e);
 }
 stocked_more w new (Named name formals) h = tt
-stocked_more w new (Signed name formals signature executable) h = tt
+stocked_more w new (Signed name formals signature executable) h = h
 
 -- ---- layouts
 
@@ -239,19 +332,26 @@ tasks_fit stobj (Hash test) =
 tasks_fit stobj (Child x) = ((λ k c. (refl, tt)), ((λ k c. true_false k), ((λ k c. true_false k), tt)))
 tasks_fit stobj (Children x n) = ((λ k c. (refl, tt)), ((λ k c. (refl, tt)), ((λ k c. (refl, tt)), ((λ k c. true_false k), ((λ k c. true_false k), tt)))))
 
+tasks_output : (stobj : ℕ) (s : Shape) → EachOne (λ (t : Task). HasOutput t.1.outs) (field_tasks stobj s)
+tasks_output stobj (Scalar t o) = (tt, (tt, (tt, tt)))
+tasks_output stobj (Array t o n resizable) = (tt, (tt, (tt, (tt, (tt, tt)))))
+tasks_output stobj (Hash test) = (tt, (tt, (tt, (tt, (tt, (tt, (tt, (tt, tt))))))))
+tasks_output stobj (Child x) = (tt, (tt, (tt, tt)))
+tasks_output stobj (Children x n) = (tt, (tt, (tt, (tt, (tt, tt)))))
+
 module _ (d : Descriptor) where
   abbrev IsOf : GeneratedFunction → Type 0
-  IsOf g = (g.stobj ≡ d.name) × (IsOwn g ⊎ IsOfField d g)
+  IsOf g = (g.stobj ≡ d.name) × (IsOwn g ⊎ IsOfField d g) × HasOutput g.signature.outs
 
-  named_come : (k : ℕ) (f : Field) → slice_get d.fields k ≡ Some f → (names : List ℕ) (ts : List Task) → EachOne (λ (t : Task). TaskFits d.name f.shape t.0 t.1.ins) ts → EachOne IsOf (named_tasks d.name k names ts)
-  named_come k f e [] ts h = tt
-  named_come k f e (x ∷ xs) [] h = tt
-  named_come k f e (x ∷ xs) (t ∷ ts) h = ((refl, inr (record { number = k; field = f; there = e; of_field = refl; fits = h.0 })), named_come k f e xs ts h.1)
+  named_come : (k : ℕ) (f : Field) → slice_get d.fields k ≡ Some f → (names : List ℕ) (ts : List Task) → EachOne (λ (t : Task). TaskFits d.name f.shape t.0 t.1.ins) ts → EachOne (λ (t : Task). HasOutput t.1.outs) ts → EachOne IsOf (named_tasks d.name k names ts)
+  named_come k f e [] ts h g = tt
+  named_come k f e (x ∷ xs) [] h g = tt
+  named_come k f e (x ∷ xs) (t ∷ ts) h g = ((refl, inr (record { number = k; field = f; there = e; of_field = refl; fits = h.0 }), g.0), named_come k f e xs ts h.1 g.1)
 
   fields_come : (k : ℕ) (fs : List Field) → ((i : ℕ) (f : Field) → slice_get fs i ≡ Some f → slice_get d.fields (k + i) ≡ Some f) → EachOne IsOf (field_functions d.name k fs)
   fields_come k [] h = tt
   fields_come k (f ∷ fs) h =
-      each_both IsOf (named_tasks d.name k f.made (field_tasks d.name f.shape)) (field_functions d.name (k + 1) fs) (named_come k f here f.made (field_tasks d.name f.shape) (tasks_fit d.name f.shape)) (fields_come (k + 1) fs later)
+      each_both IsOf (named_tasks d.name k f.made (field_tasks d.name f.shape)) (field_functions d.name (k + 1) fs) (named_come k f here f.made (field_tasks d.name f.shape) (tasks_fit d.name f.shape) (tasks_output d.name f.shape)) (fields_come (k + 1) fs later)
     where
       here : slice_get d.fields k ≡ Some f
       here = let none : k + 0 ≡ k = omega arith in subst (λ (n : ℕ). slice_get d.fields n ≡ Some f) none (h 0 f refl)
@@ -260,7 +360,7 @@ module _ (d : Descriptor) where
       later i q e = let one : k + suc i ≡ (k + 1) + i = omega arith in subst (λ (n : ℕ). slice_get d.fields n ≡ Some q) one (h (suc i) q e)
 
   functions_come : EachOne IsOf (generated_functions d)
-  functions_come = ((refl, inl (inl (refl, refl))), ((refl, inl (inr refl)), fields_come 0 d.fields (λ i f e. from_zero i f e)))
+  functions_come = ((refl, inl (inl (refl, refl)), tt), ((refl, inl (inr refl), tt), fields_come 0 d.fields (λ i f e. from_zero i f e)))
     where
       from_zero : (i : ℕ) (f : Field) → slice_get d.fields i ≡ Some f → slice_get d.fields (0 + i) ≡ Some f
       from_zero i f e = let none : i ≡ 0 + i = omega arith in subst (λ (n : ℕ). slice_get d.fields n ≡ Some f) none e
@@ -268,7 +368,7 @@ module _ (d : Descriptor) where
   generated_stocked : (w : World) (class : ℕ) → definition w d.name ≡ Some (Concrete d class) → (gs : List GeneratedFunction) → EachOne IsOf gs → EachDefinition (StockedDefinition w) (map Generated gs)
   generated_stocked w class e [] h = tt
   generated_stocked w class e (g ∷ gs) h =
-      (record { descriptor = d; class = class; there = ap (definition w) h.0.0 ∙ e; kind = h.0.1 }, generated_stocked w class e gs h.1)
+      (record { descriptor = d; class = class; there = ap (definition w) h.0.0 ∙ e; kind = h.0.1; output = h.0.2 }, generated_stocked w class e gs h.1)
 
   module _ (w : World) (free : name_in_use w (new_names d) ≡ None) where
     abbrev own : Option ℕ → ℕ → Task → GeneratedFunction
@@ -279,6 +379,11 @@ module _ (d : Descriptor) where
 
     abbrev with_object : World
     with_object = w ++ stobj_entries w d
+
+    -- what `class_for` is, by the stobj that this one is congruent to
+    abbrev class_given : Option ℕ → ℕ
+    class_given None = d.name
+    class_given (Some old) = unwrap_or (class_of w old) old
 
     turned : (a b : ℕ) → nat_eq a b ≡ false → nat_eq b a ≡ false
     turned a b e = grind (arith, nat_tests)
@@ -302,13 +407,21 @@ module _ (d : Descriptor) where
           made_of = refl;
         }
 
-    pub entries_stocked : HaveInitials d.fields → EachDefinition (StockedDefinition with_object) (stobj_entries w d)
-    entries_stocked h = ((h, creator_there), generated_stocked with_object (class_for w d) there (generated_functions d) functions_come)
+    pub entries_stocked : HaveInitials d.fields → IsConcreteIfAny w d.congruent_to → IsStocked w → EachDefinition (StockedDefinition with_object) (stobj_entries w d)
+    entries_stocked h congruent stocked = ((h, creator_there, class_there d.congruent_to refl congruent), generated_stocked with_object (class_for w d) there (generated_functions d) functions_come)
       where
         there : definition with_object d.name ≡ Some (Concrete d (class_for w d))
         there =
             definition_new w (stobj_entries w d) d.name (first_free w d.name (d.recognizer ∷ d.creator ∷ flat_map names_of_field d.fields) free).0.nothing
             ∙ ap (λ (b : Bool). if b then Some (Concrete d (class_for w d)) else definition (map Generated (generated_functions d)) d.name) (same_number d.name)
+
+        class_there : (v : Option ℕ) → d.congruent_to ≡ v → IsConcreteIfAny w v → ConcreteThere with_object (class_for w d)
+        class_there None e c = subst (ConcreteThere with_object) (sym (ap (λ (v : Option ℕ). class_given v) e)) (record { descriptor = d; class = class_for w d; there = there })
+        class_there (Some old) e c =
+            let at = concrete_at w old c in
+            let class : class_of w old ≡ Some at.class = ap (option_and_then class_in) at.there in
+            subst (ConcreteThere with_object) (sym (ap (λ (v : Option ℕ). class_given v) e ∙ ap (λ (v : Option ℕ). unwrap_or v old) class))
+            (concrete_more w (stobj_entries w d) at.class (stocked.each old (Concrete at.descriptor at.class) at.there).2)
 
 -- ---- initial values as they are read
 

@@ -1,2 +1,4 @@
 pub mod Known
 pub mod Laws
+pub mod Followed
+pub mod Exports

@@ -1,6 +1,8 @@
 //! What sessions that commands have made give to the logic: known symbols, tables, lists that fit.
 #![tactic(auto)]
 
+ghost use Rattle.model_made_logic.specs.Exports.{MadeExportsAreWritten};
+ghost use Rattle.model_made_logic.specs.Followed.{MadeWorldsAreFollowedHere};
 ghost use Rattle.model_made_logic.specs.Laws.{AcceptedFormsAreSuited, CommandsKeepTables, DefinitionsSupply, EvaluationKeepsKnown, MadeStobjsAreStocked, MadeSessionsAreKnown, MadeWorldsAreFollowed};
 
 /// Checked evaluation keeps known symbols known, those of values and of live stobjs, and a table of symbols a table.
@@ -46,4 +48,19 @@ pub fn accepted_forms_are_suited()
 #[tactic(auto, using(crate::proofs::LawLemmas::made_worlds_followed))]
 pub fn made_worlds_are_followed()
     ensures { MadeWorldsAreFollowed }
+{}
+
+/// A world that commands have made is all that the law of the logic asks, abstract stobjs included: stobjs that are congruent
+/// where a form was checked are seen alike, an export runs a function of the stobj's foundation, and an abstract stobj has the
+/// layout of its foundation.
+#[tactic(auto, using(crate::proofs::FollowedLemmas::made_worlds_followed_here))]
+pub fn made_worlds_are_followed_here()
+    ensures { MadeWorldsAreFollowedHere }
+{}
+
+/// In each session that commands have made an export is what its event made of its logic and exec functions, the creator of an
+/// abstract stobj runs that of its foundation, and `EQUAL` and `NTH` are the primitives.
+#[tactic(auto, using(crate::proofs::FollowedLemmas::made_exports_written))]
+pub fn made_exports_are_written()
+    ensures { MadeExportsAreWritten }
 {}

@@ -1,4 +1,3 @@
-use Rattle.std.proofs.Common.{◌≡◌}
 use Rattle.acl_code.proofs.PartLemmas.{let_built}
 use Rattle.acl_code.proofs.finish.finish_let.Goals as goal
 

@@ -1,4 +1,4 @@
-use Rattle.std.proofs.Common.{rules, ◌≡◌}
+use Rattle.std.proofs.Common.{rules}
 use Rattle.acl_layers.specs.Rows.{seen_unit}
 use Rattle.acl_layers.proofs.RowLemmas.{chain_last, chain_more}
 use Rattle.acl_layers.proofs.chained.chain.Goals as goal

@@ -1,4 +1,4 @@
-use Rattle.std.proofs.Common.{rules, ◌≡◌}
+use Rattle.std.proofs.Common.{rules}
 use Rattle.acl_layers.proofs.RowLemmas.{minus_two}
 use Rattle.acl_layers.proofs.counted.minus.Goals as goal
 

@@ -1,17 +1,19 @@
-use Rattle.std.proofs.Common.{rules, refl, ◌≡◌, length, map, slice_get, Some, ℕ, ◌+◌, ◌<◌, ◌++◌, ◌∷◌, [], List, to_z, of_z, w64, ℤ, subst, sym, ap, ◌∙◌, arith}
+use Rattle.std.proofs.Common.{rules, refl, ◌≡◌, length, map, slice_get, Some, ℕ, ◌+◌, ◌<◌, ◌++◌, ◌∷◌, [], List, subst, sym, ap, ◌∙◌, arith}
 use Rattle.std.proofs.lemmas.List.{length-append, length-map, map_push}
 use Rattle.std.proofs.lemmas.Option.{slice_get_read}
 use Rattle.acl_base.specs.declared.layout.Field.{Field}
 use Rattle.acl_base.specs.declared.layout.Field.TheVariants as fields
 use Rattle.acl_nodes.specs.Nodes.{Own, Child, Children}
 use Rattle.acl_nodes.proofs.ExtendLemmas.{extends_self, extends_then}
-use Rattle.acl_store.specs.Fields.{One}
+use Rattle.acl_store.specs.Fields.{Table}
+use Rattle.acl_maps.specs.Cells.{Cells}
+use Rattle.acl_store.specs.declared.slot.Slot.TheVariants as slots
 use Rattle.acl_store.specs.Layouts.{IsField}
 use Rattle.acl_store.specs.Making.{PartFor, PartsFor, ChildrenFor}
 use Rattle.acl_store.specs.Parts.{part_of}
 use Rattle.acl_store.specs.Views.{view}
 use Rattle.acl_store.specs.declared.slot.Slot.{Slot}
-use Rattle.acl_store.proofs.MakeLemmas.{node_pushed, one_for, many_for, child_for, children_for, parts_for_start, parts_for_step, children_for_start, children_for_step}
+use Rattle.acl_store.proofs.MakeLemmas.{node_pushed, one_for, many_for, hash_for, child_for, children_for, parts_for_start, parts_for_step, children_for_start, children_for_step}
 use Rattle.acl_store.proofs.making.+made.Goals as goal
 
 pub make-returns-clause-made : goal.make-returns-clause-made
@@ -82,3 +84,8 @@ make_slots-loop-f-preserved t c =
       ap length p ∙ (length-append c.loop-f.slots.items (c.in_ok-slot.slot ∷ []) ∙ ap (λ (n : ℕ). n + 1) i.1),
       extends_then (view c.args.nodes.now.items) (view c.loop-f.nodes.items) (view c.make_slot.new.nodes.items) i.2 c.in_ok-slot.ensures.kept,
     )
+
+pub make_slot-returns-in-Hash-clause-made : goal.make_slot-returns-in-Hash-clause-made
+make_slot-returns-in-Hash-clause-made t c =
+    subst (λ (f : Field). PartFor c.args.heap.now c.args.layouts.now f (view c.args.nodes.now.items) (view c.args.nodes.now.items) (part_of (slots.Table c.new-map.result))) (sym c.in-Hash.is)
+    (hash_for c.args.heap.now c.args.layouts.now c.in-Hash.field-0 (view c.args.nodes.now.items) (part_of (slots.Table c.new-map.result)) (ap (λ (cs : Cells). Own (Table cs)) c.new-map.ensures))

@@ -1,4 +1,4 @@
-use Rattle.std.proofs.Common.{rules, ◌≡◌, ◌∙◌, ◌<◌, ap, set, length, List}
+use Rattle.std.proofs.Common.{rules, ◌∙◌, ◌<◌, ap, set, length, List}
 use Rattle.std.proofs.lemmas.List.{length-set}
 use Rattle.acl_store.proofs.SlotLemmas.{copied_step}
 use Rattle.acl_store.proofs.slot.copy_first.Goals as goal

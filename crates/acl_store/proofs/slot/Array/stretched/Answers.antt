@@ -1,4 +1,4 @@
-use Rattle.std.proofs.Common.{rules, ◌≡◌, ◌∙◌, ◌++◌, ap, subst, take, drop, length, List, ◌≤◌, ℕ}
+use Rattle.std.proofs.Common.{◌≡◌, ◌∙◌, ◌++◌, ap, subst, take, drop, length, List, ◌≤◌, ℕ}
 use Rattle.std.specs.Prelude.{◌⊎◌}
 use Rattle.acl_store.proofs.SlotLemmas.{copied_all}
 use Rattle.acl_store.proofs.slot.Array.stretched.Goals as goal

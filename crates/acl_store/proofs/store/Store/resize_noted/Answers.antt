@@ -1,5 +1,4 @@
-use Rattle.std.proofs.Common.{rules, ◌≡◌, ◌<◌, length, sym, ap, subst, ◌∙◌, refl, List, [], ◌∷◌, ◌++◌}
-use Rattle.acl_nodes.specs.Nodes.{Part}
+use Rattle.std.proofs.Common.{rules, ◌≡◌, sym, ap, subst, ◌∙◌, refl, List, [], ◌∷◌, ◌++◌}
 use Rattle.acl_store.specs.Calls.{IsSizedTo}
 use Rattle.acl_store.specs.Fields.{IsSized, IsFilled, sized}
 use Rattle.acl_store.specs.Journals.{IsWhole}

@@ -1,0 +1,4 @@
+pub mod ValueLemmas
+pub mod KeyLemmas
+pub mod LastLemmas
+pub mod CountLemmas

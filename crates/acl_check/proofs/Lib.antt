@@ -1,0 +1,5 @@
+pub mod CliqueLemmas
+pub mod FaultLemmas
+pub mod MacroLemmas
+pub mod MemberLemmas
+pub mod SmallLemmas

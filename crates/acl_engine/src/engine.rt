@@ -1,0 +1,54 @@
+//! The engine of an expansion.
+
+ghost use Rattle.std.specs.Prelude.{◌≡◌, ℕ, ◌+◌, ◌≤◌, [], length};
+ghost use Rattle.acl_base.specs.Limits.{AreLimits};
+ghost use Rattle.acl_forms.specs.Forms.{Grown};
+ghost use Rattle.acl_terms.specs.Definitions.{seen_formals};
+ghost use Rattle.acl_worlds.specs.Contents.{Content, seen_world, WorldLies};
+ghost use Rattle.model_eval.specs.Outcomes.{Stobjs};
+ghost use Rattle.model_terms.specs.Faults.{formal_names};
+ghost use Rattle.acl_engine.specs.Outcomes.{macro_value, seen_body, IsOutcome, IsMacroOf, words_at, words_reach};
+
+use acl_base::{Limits, Word};
+use acl_heap::Heap;
+use acl_syms::Symbols;
+use acl_terms::{Macro, Outcome};
+use acl_worlds::World;
+
+/// What evaluates the bodies of macros.
+pub trait Engine {
+    /// The list of each live object under its name.
+    ghost live: { Self → Stobjs ℕ };
+
+    /// The engine has what it needs to evaluate in this world, as the terms of its definitions.
+    ghost fits: { Self → Content → Type 0 };
+
+    /// The body of a macro of the world, over a value of each formal in their order, with no object in scope; so many calls are
+    /// counted before. The outcome is that of checked evaluation, unless memory is refused. Heap and symbols only grow, and the
+    /// symbols are those that the evaluation knows at its end. Packages and the lists of live objects stay, also where memory is
+    /// refused.
+    fn apply(
+        &mut self,
+        world: &World,
+        heap: &mut Heap,
+        syms: &mut Symbols,
+        definition: &Macro,
+        actuals: &[Word],
+        used: u64,
+        limits: Limits,
+    ) -> Outcome
+        requires fits { fits self.old world.now }
+        requires world { WorldLies heap.old world.now }
+        requires definition { IsMacroOf world.now definition.now }
+        requires actuals { words_reach actuals.now ≤ length heap.old }
+        requires count { length actuals.now ≡ length (formal_names (seen_formals heap.old definition.now.formals)) }
+        requires limits { AreLimits limits.steps limits.depth }
+        requires used { used ≤ limits.steps }
+        ensures grows { Grown syms.old syms.new heap.old heap.new }
+        ensures packages { syms.new.packages ≡ syms.old.packages }
+        ensures live { live self.new ≡ live self.old }
+        ensures fits { fits self.new world.now }
+        ensures most { result.calls ≤ limits.steps }
+        ensures outer { used + result.outer ≤ result.calls }
+        ensures outcome { IsOutcome heap.new syms.new.symbols [] result (macro_value (seen_world heap.old world.now) syms.old limits.steps limits.depth (seen_formals heap.old definition.now.formals) (seen_body heap.old definition.now) (words_at heap.old actuals.now) used) };
+}

@@ -1,0 +1,10 @@
+pub mod TableLemmas
+pub mod WalkLemmas
+pub mod BuildLemmas
+pub mod ValueLemmas
+pub mod MarkLemmas
+pub mod MoveLemmas
+pub mod SweepLemmas
+pub mod KeyLemmas
+pub mod CountLemmas
+pub mod LawLemmas

@@ -1,0 +1,4 @@
+pub mod Tables
+pub mod Compacting
+pub mod Pairs
+pub mod Laws

@@ -1,0 +1,11 @@
+pub mod StackLemmas
+pub mod CellLemmas
+pub mod TermLemmas
+pub mod BeginLemmas
+pub mod MemoryLemmas
+pub mod GoLemmas
+pub mod CallLemmas
+pub mod WordLemmas
+pub mod GrowthLemmas
+pub mod PrimLemmas
+pub mod SoundLemmas

@@ -1,0 +1,14 @@
+//! From core forms to terms: a form, functions or a macro are checked, and the terms of what is accepted are put into the
+//! table.
+#![tactic(auto)]
+
+mod function_terms;
+mod functions;
+mod translating;
+
+pub use function_terms::FunctionTerms;
+pub use functions::{translate_clique, translate_macro};
+pub use translating::{translate, translate_constant, translate_expression};
+
+#[cfg(test)]
+mod tests;

@@ -1,0 +1,3 @@
+pub mod DepthLemmas
+pub mod ShapeLemmas
+pub mod FormLemmas

@@ -1,0 +1,11 @@
+pub mod CallLemmas
+pub mod KnownLemmas
+pub mod CircularLemmas
+pub mod ActualLemmas
+pub mod DefinitionLemmas
+pub mod BeginLemmas
+pub mod StepLemmas
+pub mod TurnLemmas
+pub mod OriginLemmas
+pub mod GivingLemmas
+pub mod FormalLemmas

@@ -1,0 +1,4 @@
+pub mod Giving
+pub mod Circular
+pub mod Steps
+pub mod Laws

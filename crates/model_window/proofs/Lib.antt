@@ -1,0 +1,12 @@
+pub mod MemoryLemmas
+pub mod KeptLemmas
+pub mod TreeLemmas
+pub mod CallLemmas
+pub mod PartLemmas
+pub mod ChildLemmas
+pub mod ClosedLemmas
+pub mod OpenLemmas
+pub mod TurnLemmas
+pub mod WholeLemmas
+pub mod TableLemmas
+pub mod CutLemmas

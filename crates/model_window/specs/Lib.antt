@@ -1,0 +1,9 @@
+pub mod Windows
+pub mod Frames
+pub mod Turns
+pub mod Stands
+pub mod Tables
+pub mod Following
+pub mod Fitting
+pub mod Laws
+pub mod Closing
