@@ -1,3 +1,5 @@
 pub mod NodeLemmas
 pub mod DividedLemmas
 pub mod LetLemmas
+pub mod ReadyLemmas
+pub mod PlaceLemmas

@@ -2,5 +2,11 @@
 #![tactic(auto)]
 
 mod node;
+mod placed;
+mod placing;
+mod ready;
 
 pub use node::core_of_node;
+pub use placed::Placed;
+pub use placing::part_found;
+pub use ready::form_fault;
