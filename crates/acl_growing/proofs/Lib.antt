@@ -3,3 +3,4 @@ pub mod DividedLemmas
 pub mod LetLemmas
 pub mod ReadyLemmas
 pub mod PlaceLemmas
+pub mod GrowLemmas

@@ -1,5 +1,5 @@
 -- Forms in a row, and what is bound.
-use Rattle.std.specs.Prelude.{◌≡◌, ◌≤◌, length}
+use Rattle.std.specs.Prelude.{◌≤◌, length}
 use Rattle.std.proofs.Common.{sym, ◌∙◌, arith}
 use Rattle.acl_expand.specs.Looks.{setting_at}
 use Rattle.acl_growing.proofs.ReadyLemmas.{let_fails, let_goes, stobj_let_fails, stobj_let_goes, call_ends, part_fails, part_goes, parts_past, binding_fails, binding_goes, bound_past}
