@@ -15,7 +15,6 @@ use Rattle.acl_terms.specs.Growth.{seen_core-later}
 use Rattle.acl_layers.specs.declared.layer.Part.{Part}
 use Rattle.acl_layers.specs.Layers.{seen_part, seen_parts, part_reach, parts_reach, PartFits, PartsFit}
 use Rattle.acl_layers.specs.Growth.{seen_part-later, part_fits-later}
-use Rattle.acl_growing.specs.Nodes.{HasParts}
 
 -- ---- one part
 
@@ -96,17 +95,5 @@ pub reach_pushed : (fs : List Core) (f : Core) (n : ℕ) → most (map core_reac
 reach_pushed [] f n l k = omega (arith, k)
 reach_pushed (g ∷ fs) f n l k = let r : most (map core_reach (fs ++ f ∷ [])) ≤ n = reach_pushed fs f n (omega (arith, l)) k in omega (arith, l, r)
 
--- ---- as many core forms as a node asks for
-
-same_parts : (k : layers.Kind) (n : ℕ) → parts.HasParts k n → HasParts k n
-same_parts layers.IfNode n h = h
-same_parts (layers.LetNode names) n h = h
-same_parts layers.MvNode n h = h
-same_parts (layers.MvLetNode names) n h = h
-same_parts (layers.StobjLetNode names vars) n h = h
-same_parts (layers.WithLocalNode stobj names) n h = h
-same_parts layers.MustBeEqualNode n h = h
-same_parts (layers.CallNode f) n h = h
-
-pub node_count : (h : Objects) (k : layers.Kind) (fs : List Core) → parts.HasParts k (length (seen_cores h fs)) → HasParts k (length fs)
-node_count h k fs l = same_parts k (length fs) (subst (λ (n : ℕ). parts.HasParts k n) (length-map fs (seen_core h)) l)
+pub node_count : (h : Objects) (k : layers.Kind) (fs : List Core) → parts.HasParts k (length (seen_cores h fs)) → parts.HasParts k (length fs)
+node_count h k fs l = subst (λ (n : ℕ). parts.HasParts k n) (length-map fs (seen_core h)) l

@@ -6,7 +6,8 @@ ghost use Rattle.model_expansion.specs.Expansion.{core_of_node};
 ghost use Rattle.acl_terms.specs.Forms.{numbers, seen_core, seen_cores, core_reach, most};
 ghost use Rattle.acl_types.specs.Shapes.{IsCore};
 ghost use Rattle.acl_layers.specs.Layers.{seen_kind};
-ghost use Rattle.acl_growing.specs.Nodes.{HasParts, divided};
+ghost use Rattle.model_expansion_parts.specs.Parts.{HasParts};
+ghost use Rattle.acl_growing.specs.Nodes.{divided};
 
 use acl_base::{SymId, Word};
 use acl_heap::Heap;
