@@ -12,8 +12,8 @@ use Rattle.model_terms.specs.Cores as cores
 use Rattle.model_terms.specs.Worlds.{World}
 use Rattle.model_slots.specs.Trees as trees
 use Rattle.model_slots.specs.Trees.{Tree, Trees, none, more}
-use Rattle.model_slots.specs.Environments.{Environment, slot_in, all_bound, ordinary_bound, formal_environment}
-use Rattle.model_slots.specs.Resolved.{both, all_three, number_in, children_in, resolved, all_resolved}
+use Rattle.model_slots.specs.Environments.{Environment, all_bound, ordinary_bound, formal_environment}
+use Rattle.model_slots.specs.Resolved.{variable_at, both, all_three, number_in, children_in, resolved, all_resolved}
 use Rattle.acl_terms.specs.declared.form.Core.{Core}
 use Rattle.acl_terms.specs.declared.form.Core.TheViews as views
 use Rattle.acl_terms.specs.declared.form.Core.TheVariants as variants
@@ -21,10 +21,11 @@ use Rattle.acl_terms.specs.Forms.{numbers, bound_names, seen_core, seen_cores, s
 use Rattle.acl_terms.specs.FormLaws.{seen_var, seen_const, seen_if, seen_let, seen_mv, seen_mv_let, seen_stobj_let, seen_with_local, seen_must_be_equal, seen_call}
 use Rattle.acl_code.specs.declared.environment.Binding.{Binding}
 use Rattle.acl_code.specs.declared.term.Child.{Child}
+use Rattle.acl_code.specs.declared.term.Operand.{Operand}
 use Rattle.acl_code.specs.declared.term.Term.{Term}
 use Rattle.acl_code.specs.Environments.{seen_environment}
 use Rattle.acl_code.specs.Sizes.{Fits}
-use Rattle.acl_code.specs.Tables.{tree_at, seen_child, seen_term, seen_parts, AllIn, AllWithin, Within, Grown, TermsLie, IsBuilt, AreBuilt}
+use Rattle.acl_code.specs.Tables.{tree_at, seen_operand, seen_child, seen_term, seen_parts, AllIn, AllWithin, Within, Grown, TermsLie, IsBuilt, AreBuilt}
 use Rattle.acl_code.proofs.TableLemmas.{tree_later, grown_same, grown_then}
 
 -- ---- of two and of three
@@ -74,7 +75,7 @@ module _ (h : Objects) where
 -- ---- the equations of trees on forms that are seen
 
 module _ (h : Objects) (w : World) (env : Environment) (s : ℕ) where
-  tree_var : (x : SymId) → resolved w env s (seen_core h (variants.Var x)) ≡ option_map (λ i. trees.Leaf (trees.Slot i)) (slot_in env x.0)
+  tree_var : (x : SymId) → resolved w env s (seen_core h (variants.Var x)) ≡ Some (trees.Leaf (variable_at env x.0))
   unfolding resolved
   tree_var x = ap (resolved w env s) (seen_var h x)
 
@@ -140,9 +141,9 @@ module _ (h : Objects) (w : World) (at : ℕ) (e : List Binding) (core : Core) w
       → Within ts r → seen_term h ts r ≡ tree → Tree_of ts r
   arm view ts r tree ec q wi is = record { within = wi; is = is ∙ (sym q ∙ ap (λ f. resolved w (seen_environment e) at (seen_core h f)) (sym ec)) }
 
-  pub var_arm : (x : SymId) (ts : List Term) (r : Option TermId) (slot : Option ℕ) → core ≡ variants.Var x → slot ≡ slot_in (seen_environment e) x.0
-      → Within ts r → seen_term h ts r ≡ option_map (λ i. trees.Leaf (trees.Slot i)) slot → Tree_of ts r
-  var_arm x ts r slot ec es wi is = arm (variants.Var x) ts r _ ec (tree_var h w (seen_environment e) at x) wi (is ∙ ap (option_map (λ i. trees.Leaf (trees.Slot i))) es)
+  pub var_arm : (x : SymId) (ts : List Term) (r : Option TermId) (operand : Operand) → core ≡ variants.Var x → seen_operand h operand ≡ variable_at (seen_environment e) x.0
+      → Within ts r → seen_term h ts r ≡ Some (trees.Leaf (seen_operand h operand)) → Tree_of ts r
+  var_arm x ts r operand ec eo wi is = arm (variants.Var x) ts r _ ec (tree_var h w (seen_environment e) at x) wi (is ∙ ap (λ o. Some (trees.Leaf o)) eo)
 
   pub const_arm : (v : Word) (ts : List Term) (r : Option TermId) → core ≡ variants.Const v
       → Within ts r → seen_term h ts r ≡ Some (trees.Leaf (trees.Const (object_of h v))) → Tree_of ts r

@@ -6,12 +6,13 @@ use Rattle.std.proofs.lemmas.List.{append-nil, map-append}
 use Rattle.acl_base.specs.declared.SymId.{SymId}
 use Rattle.acl_base.specs.declared.Word.{Word}
 use Rattle.acl_heap.specs.Objects.{Objects, object_of}
+use Rattle.model_prims.specs.Kinds.{by_number, nil_of}
 use Rattle.model_terms.specs.Cores as cores
 use Rattle.model_terms.specs.Cores.{Reached, reached_from, reached_by, reached, variable}
 use Rattle.model_terms.specs.Worlds as worlds
 use Rattle.model_slots.specs.Trees as slots
 use Rattle.model_slots.specs.Environments as slots_in
-use Rattle.model_slots.specs.Resolved.{both, number_in, operand_in, child_in, children_in}
+use Rattle.model_slots.specs.Resolved.{both, number_in, variable_at, operand_in, child_in, children_in}
 use Rattle.acl_terms.specs.declared.form.Core.{Core}
 use Rattle.acl_terms.specs.declared.form.Core.TheViews as views
 use Rattle.acl_terms.specs.declared.form.Core.TheVariants as variants
@@ -26,37 +27,37 @@ pub number_seen : (h : Objects) (w : Content) (x : ℕ) → number_of w x ≡ nu
 number_seen h w x = ap (position (nat_eq x)) (sym (seen_names h w.definitions))
 
 module _ (env : slots_in.Environment) (h : Objects) where
-  abbrev at : cores.Core → Option slots.Operand
+  abbrev at : cores.Core → slots.Operand
   at f = operand_in env f
 
-  pub operand_var : (x : SymId) → at (seen_core h (variants.Var x)) ≡ option_map slots.Slot (slots_in.slot_in env x.0)
+  pub operand_var : (x : SymId) → at (seen_core h (variants.Var x)) ≡ variable_at env x.0
   operand_var x = ap at (seen_var h x)
 
-  pub operand_const : (v : Word) → at (seen_core h (variants.Const v)) ≡ Some (slots.Const (object_of h v))
+  pub operand_const : (v : Word) → at (seen_core h (variants.Const v)) ≡ slots.Const (object_of h v)
   operand_const v = ap at (seen_const h v)
 
-  pub operand_if : (a b c : Core) → at (seen_core h (views.If a b c)) ≡ None
+  pub operand_if : (a b c : Core) → at (seen_core h (views.If a b c)) ≡ slots.Const (nil_of by_number)
   operand_if a b c = ap at (seen_if h a b c)
 
-  pub operand_let : (bs : List (SymId × Core)) (b : Core) → at (seen_core h (views.Let bs b)) ≡ None
+  pub operand_let : (bs : List (SymId × Core)) (b : Core) → at (seen_core h (views.Let bs b)) ≡ slots.Const (nil_of by_number)
   operand_let bs b = ap at (seen_let h bs b)
 
-  pub operand_mv : (parts : List Core) → at (seen_core h (views.Mv parts)) ≡ None
+  pub operand_mv : (parts : List Core) → at (seen_core h (views.Mv parts)) ≡ slots.Const (nil_of by_number)
   operand_mv parts = ap at (seen_mv h parts)
 
-  pub operand_mv_let : (names : List SymId) (a b : Core) → at (seen_core h (views.MvLet names a b)) ≡ None
+  pub operand_mv_let : (names : List SymId) (a b : Core) → at (seen_core h (views.MvLet names a b)) ≡ slots.Const (nil_of by_number)
   operand_mv_let names a b = ap at (seen_mv_let h names a b)
 
-  pub operand_stobj_let : (bs : List (SymId × Core)) (vars : List SymId) (p c : Core) → at (seen_core h (views.StobjLet bs vars p c)) ≡ None
+  pub operand_stobj_let : (bs : List (SymId × Core)) (vars : List SymId) (p c : Core) → at (seen_core h (views.StobjLet bs vars p c)) ≡ slots.Const (nil_of by_number)
   operand_stobj_let bs vars p c = ap at (seen_stobj_let h bs vars p c)
 
-  pub operand_with_local : (stobj : SymId) (names : List SymId) (a b : Core) → at (seen_core h (views.WithLocal stobj names a b)) ≡ None
+  pub operand_with_local : (stobj : SymId) (names : List SymId) (a b : Core) → at (seen_core h (views.WithLocal stobj names a b)) ≡ slots.Const (nil_of by_number)
   operand_with_local stobj names a b = ap at (seen_with_local h stobj names a b)
 
-  pub operand_must_be_equal : (a b : Core) → at (seen_core h (views.MustBeEqual a b)) ≡ None
+  pub operand_must_be_equal : (a b : Core) → at (seen_core h (views.MustBeEqual a b)) ≡ slots.Const (nil_of by_number)
   operand_must_be_equal a b = ap at (seen_must_be_equal h a b)
 
-  pub operand_call : (f : SymId) (parts : List Core) → at (seen_core h (views.Call f parts)) ≡ None
+  pub operand_call : (f : SymId) (parts : List Core) → at (seen_core h (views.Call f parts)) ≡ slots.Const (nil_of by_number)
   operand_call f parts = ap at (seen_call h f parts)
 
 module _ (w : worlds.World) (env : slots_in.Environment) (vars : List ℕ) (x : ℕ) (h : Objects) where

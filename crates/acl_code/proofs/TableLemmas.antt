@@ -240,7 +240,7 @@ module _ (h h' : Objects) (e : Extends h h') where
   index_kept (Some o) l = ap Some (operand_kept o l)
 
   child_kept : (c : Child) → child_reach c ≤ length h → seen_child h' c ≡ seen_child h c
-  child_kept c l = rw (index_kept c.index l) refl
+  child_kept c l = rw (index_kept c.index (omega (arith, l)), operand_kept c.parent (omega (arith, l))) refl
 
   children_kept : (cs : List Child) → most (map child_reach cs) ≤ length h → map (seen_child h') cs ≡ map (seen_child h) cs
   children_kept [] l = refl

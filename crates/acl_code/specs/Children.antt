@@ -6,22 +6,16 @@ use Rattle.acl_terms.specs.declared.form.Core.{Core}
 use Rattle.acl_terms.specs.Forms.{core_reach, most, CoreLies}
 use Rattle.acl_code.specs.declared.term.Operand.{Operand}
 use Rattle.acl_code.specs.declared.term.Child.{Child}
-use Rattle.acl_code.specs.Tables.{operand_reach, child_reach, IndexLies}
+use Rattle.acl_code.specs.Tables.{operand_reach, child_reach}
 
--- the word of an operand, where there is one
-abbrev pub OperandLies : Objects → Option Operand → Type 0
-OperandLies h None = Unit {0}
-OperandLies h (Some o) = operand_reach o ≤ length h
+-- the word of an operand
+abbrev pub OperandLies : Objects → Operand → Type 0
+OperandLies h o = operand_reach o ≤ length h
 
 -- the words of a form that is an index, where there is one
 abbrev pub AtLies : Objects → Option Core → Type 0
 AtLies h None = Unit {0}
 AtLies h (Some f) = CoreLies h f
-
--- the word of an index, where one was found or none stands
-abbrev pub FoundLies : Objects → Option (Option Operand) → Type 0
-FoundLies h None = Unit {0}
-FoundLies h (Some index) = IndexLies h index
 
 -- the word of a child, where there is one
 abbrev pub ChildLies : Objects → Option Child → Type 0

@@ -1,5 +1,5 @@
 -- The environment that a list of bindings stands for.
-use Rattle.std.specs.Prelude.{List, [], ◌∷◌, ◌++◌}
+use Rattle.std.specs.Prelude.{ℕ, List, [], ◌∷◌, ◌++◌, map}
 use Rattle.model_slots.specs.Environments.{Environment}
 use Rattle.acl_code.specs.declared.environment.Binding.{Binding}
 
@@ -7,3 +7,6 @@ use Rattle.acl_code.specs.declared.environment.Binding.{Binding}
 abbrev pub seen_environment : List Binding → Environment
 seen_environment [] = []
 seen_environment (b ∷ bs) = seen_environment bs ++ (b.name.0, b.slot) ∷ []
+
+abbrev pub binding_names : List Binding → List ℕ
+binding_names bs = map (λ (b : Binding). b.name.0) bs

@@ -1,5 +1,5 @@
 -- What the terms of a table stand for in a heap.
-use Rattle.std.specs.Prelude.{◌≡◌, ℕ, ◌+◌, ◌<◌, ◌≤◌, List, [], ◌∷◌, ◌++◌, map, length, take, drop, get_or, Option, Some, None, slice_get, option_map}
+use Rattle.std.specs.Prelude.{◌≡◌, ℕ, ◌+◌, ◌<◌, ◌≤◌, List, [], ◌∷◌, ◌++◌, max, map, length, take, drop, get_or, Option, Some, None, slice_get, option_map}
 use Rattle.std.specs.Option.{option_map_or}
 use Rattle.std.specs.List.{AllByRecursion}
 use Rattle.acl_base.specs.declared.TermId.{TermId}
@@ -19,7 +19,7 @@ seen_operand h (operand.Slot s) = trees.Slot s
 seen_operand h (operand.Const w) = trees.Const (object_of h w)
 
 abbrev pub seen_child : Objects → Child → trees.Child
-seen_child h c = record { name = c.name.0; accessor = c.accessor.0; index = option_map (seen_operand h) c.index; parent = c.parent; returns = c.returns }
+seen_child h c = record { name = c.name.0; accessor = c.accessor.0; index = option_map (seen_operand h) c.index; parent = seen_operand h c.parent; returns = c.returns }
 
 -- what is read past the end
 abbrev pub no_tree : Tree
@@ -89,7 +89,7 @@ operand_reach (operand.Slot s) = 0
 operand_reach (operand.Const w) = reach w
 
 abbrev pub child_reach : Child → ℕ
-child_reach c = option_map_or operand_reach c.index 0
+child_reach c = max (option_map_or operand_reach c.index 0) (operand_reach c.parent)
 
 abbrev pub term_reach : Term → ℕ
 term_reach (term.Slot s) = 0

@@ -15,7 +15,7 @@ use crate::finish::{
     finish_call, finish_const, finish_if, finish_let, finish_must_be_equal, finish_mv,
     finish_mv_let, finish_stobj_let, finish_var, finish_with_local,
 };
-use crate::loans::{children, number};
+use crate::loans::{children, number, variable_operand};
 use crate::table::Terms;
 use acl_base::{SymId, TermId};
 use acl_heap::Heap;
@@ -45,8 +45,8 @@ fn build_in(
 {
     match core {
         Core::Var(x) => {
-            let slot = environment.find(*x);
-            let t = finish_var(terms, heap, slot)?;
+            let variable = variable_operand(environment, heap, *x);
+            let t = finish_var(terms, heap, variable)?;
             Ok(t)
         }
         Core::Const(word) => {
@@ -273,8 +273,8 @@ fn build_body(
 }
 
 /// The term of a body under formals, the first of which has slot 0, with the terms of its parts before it. None exactly
-/// where the body has no tree: a name has no variable, a function does not stand, or what a `STOBJ-LET` binds reaches no
-/// child. The table is then as it was, and so it is for want of memory. The recursion is at most 2,048 deep.
+/// where the body has no tree: a function does not stand, or what a `STOBJ-LET` binds reaches no child. The table is then as
+/// it was, and so it is for want of memory. The recursion is at most 2,048 deep.
 pub fn build(
     alloc: Global,
     terms: &mut Terms,

@@ -1,7 +1,6 @@
 //! Names with the slots of their variables.
 
-ghost use Rattle.std.specs.Prelude.{◌≡◌, ◌≤◌, ◌<◌, ◌^◌, [], ◌∷◌, ◌++◌, ◌+◌, length, take, Some, None, nat_eq, IfOk, OnOk, OnErr, if◌then◌else◌};
-ghost use Rattle.std.specs.Option.{option_or};
+ghost use Rattle.std.specs.Prelude.{◌≡◌, ◌≤◌, ◌<◌, ◌^◌, [], ◌∷◌, ◌++◌, ◌+◌, length, take, IfOk, OnOk, OnErr};
 ghost use Rattle.model_slots.specs.Environments.{slot_in, all_bound, ordinary_bound};
 ghost use Rattle.acl_terms.specs.Forms.{numbers};
 ghost use Rattle.acl_worlds.specs.Contents.{seen_world};
@@ -9,6 +8,7 @@ ghost use Rattle.acl_code.specs.Environments.{seen_environment};
 
 use acl_base::SymId;
 use acl_heap::Heap;
+use acl_names::Names;
 use acl_outputs::is_stobj_name;
 use acl_worlds::World;
 use std::alloc::{AllocError, Global};
@@ -22,29 +22,23 @@ pub struct Binding {
 }
 
 /// Names with slots, the innermost last. Of a name that stands twice the last counts.
-#[derive(Debug, Drop)]
+#[derive(Drop)]
 pub struct Environment {
     bindings: Vec<Binding>,
+    /// The names of the bindings, in their order.
+    names: Names,
 }
 
 impl Model for Environment {
-    ghost use Rattle.std.specs.Prelude.{List};
+    ghost use Rattle.std.specs.Prelude.{◌≡◌, List};
     ghost use Rattle.acl_code.specs.declared.environment.Binding.{Binding};
+    ghost use Rattle.acl_code.specs.Environments.{binding_names};
 
     ghost Value = { List Binding };
 
     ghost view = { λ e. e.bindings.items };
-}
 
-/// The slot that a binding gives to a name, or else the one that was found before.
-fn newer(name: SymId, binding: Binding, found: Option<u64>) -> Option<u64>
-    ensures { result ≡ option_or (if nat_eq name.0 binding.name.0 then Some binding.slot else None) found }
-{
-    if name.0 == binding.name.0 {
-        Some(binding.slot)
-    } else {
-        found
-    }
+    ghost invariant = { λ e. e.names ≡ binding_names e.bindings.items };
 }
 
 impl Environment {
@@ -54,6 +48,7 @@ impl Environment {
     {
         Environment {
             bindings: Vec::new(alloc),
+            names: Names::new(alloc),
         }
     }
 
@@ -65,31 +60,40 @@ impl Environment {
     }
 
     /// Puts a binding innermost. A refused one leaves the environment as it was.
+    #[tactic(auto, using(crate::proofs::EnvironmentLemmas::names_push, crate::proofs::EnvironmentLemmas::take_push))]
     pub fn push(&mut self, binding: Binding) -> Result<(), AllocError>
         ensures ok { OnOk result (self.new ≡ self.old ++ binding ∷ []) }
         ensures err { OnErr result (self.new ≡ self.old) }
     {
+        let at = self.bindings.len();
         self.bindings.push(binding)?;
-        Ok(())
+        match self.names.push(binding.name.0) {
+            Ok(()) => Ok(()),
+            Err(e) => {
+                self.bindings.truncate(at);
+                Err(e)
+            }
+        }
     }
 
     /// Leaves the outermost bindings alone, this many. It takes no memory.
+    #[tactic(auto, using(crate::proofs::EnvironmentLemmas::names_take))]
     pub fn cut(&mut self, to: usize)
         ensures { self.new ≡ take to self.old }
     {
+        self.names.cut(to);
         self.bindings.truncate(to);
     }
 
-    /// The slot of a name. The cost is linear in the bindings.
-    #[tactic(auto, using(crate::proofs::EnvironmentLemmas::found_step, crate::proofs::EnvironmentLemmas::found_end, crate::proofs::EnvironmentLemmas::found_start))]
+    /// The slot of a name, by one look-up.
+    #[tactic(auto, using(crate::proofs::EnvironmentLemmas::found_there, crate::proofs::EnvironmentLemmas::found_nowhere, crate::proofs::EnvironmentLemmas::found_within))]
     pub fn find(&self, name: SymId) -> Option<u64>
         ensures { result ≡ slot_in (seen_environment self.now) name.0 }
     {
-        let mut found = None;
-        for binding in self.bindings.iter() {
-            found = newer(name, *binding, found);
+        match self.names.find(name.0) {
+            Some(at) => Some(self.bindings[at].slot),
+            None => None,
         }
-        found
     }
 }
 

@@ -4,11 +4,11 @@ ghost use Rattle.std.specs.Prelude.{◌≡◌, ◌<◌, ◌≤◌, map, length, 
 ghost use Rattle.acl_heap.specs.Objects.{object_of, reach};
 ghost use Rattle.model_slots.specs.Trees as trees;
 ghost use Rattle.model_slots.specs.Resolved.{both, all_three};
-ghost use Rattle.acl_code.specs.Tables.{Within, AllWithin, seen_term, seen_parts, seen_child, Grown, TermsLie, ChildrenLie};
+ghost use Rattle.acl_code.specs.Tables.{Within, AllWithin, seen_operand, operand_reach, seen_term, seen_parts, seen_child, Grown, TermsLie, ChildrenLie};
 
 use crate::parts::{put, put_parts};
 use crate::table::Terms;
-use crate::term::{Child, Term};
+use crate::term::{Child, Operand, Term};
 use acl_base::{FnId, SymId, TermId, Word};
 use acl_heap::Heap;
 use sqlite_items::Items;
@@ -17,18 +17,22 @@ use std::alloc::AllocError;
 pub fn finish_var(
     terms: &mut Terms,
     heap: &Heap,
-    slot: Option<u64>,
+    variable: Operand,
 ) -> Result<Option<TermId>, AllocError>
+    requires word { operand_reach variable ≤ length heap.now }
     requires words { TermsLie heap.now terms.old }
     ensures within { IfOk result (λ r. Within terms.new r) }
-    ensures is { IfOk result (λ r. seen_term heap.now terms.new r ≡ option_map (λ s. trees.Leaf (trees.Slot s)) slot) }
+    ensures is { IfOk result (λ r. seen_term heap.now terms.new r ≡ Some (trees.Leaf (seen_operand heap.now variable))) }
     ensures grows { Grown terms.old terms.new }
     ensures words { TermsLie heap.now terms.new }
 {
-    match slot {
-        None => Ok(None),
-        Some(slot) => {
+    match variable {
+        Operand::Slot(slot) => {
             let t = put(terms, heap, Term::Slot(slot))?;
+            Ok(Some(t))
+        }
+        Operand::Const(word) => {
+            let t = put(terms, heap, Term::Const(word))?;
             Ok(Some(t))
         }
     }

@@ -17,7 +17,7 @@ pub use finish::{
     finish_call, finish_const, finish_if, finish_let, finish_must_be_equal, finish_mv,
     finish_mv_let, finish_stobj_let, finish_var, finish_with_local,
 };
-pub use loans::{children, number};
+pub use loans::{children, number, variable_operand};
 pub use parts::{put, put_parts};
 pub use table::Terms;
 pub use term::{Child, Operand, Parts, Term};

@@ -5,23 +5,24 @@ ghost use Rattle.std.specs.Option.{option_copied, option_map_or};
 ghost use Rattle.std.specs.List.{list_any};
 ghost use Rattle.model_terms.specs.Cores as cores;
 ghost use Rattle.model_terms.specs.Cores.{reached_from, reached_by, reached};
-ghost use Rattle.model_slots.specs.Trees as slots;
-ghost use Rattle.model_slots.specs.Resolved.{number_in, operand_in, index_in, child_in, children_in};
+ghost use Rattle.model_slots.specs.Resolved.{number_in, variable_at, operand_in, index_in, child_in, children_in};
 ghost use Rattle.acl_terms.specs.Forms.{numbers, bound_names, seen_core, seen_cores, seen_bound, core_reach, most, CoreLies};
 ghost use Rattle.acl_worlds.specs.Contents.{seen_world};
 ghost use Rattle.acl_code.specs.Environments.{seen_environment};
-ghost use Rattle.acl_code.specs.Tables.{seen_operand, seen_child, operand_reach, ChildrenLie};
-ghost use Rattle.acl_code.specs.Children.{OperandLies, AtLies, FoundLies, ChildLies, BoundLie};
+ghost use Rattle.acl_code.specs.Tables.{seen_operand, seen_child, IndexLies, ChildrenLie};
+ghost use Rattle.acl_code.specs.Children.{OperandLies, AtLies, ChildLies, BoundLie};
 
 use crate::environment::Environment;
 use crate::term::{Child, Operand};
-use acl_base::{FnId, SymId};
+use acl_base::{FnId, SymId, Word};
 use acl_heap::Heap;
 use acl_outputs::{has, variable};
 use acl_terms::Core;
 use acl_worlds::World;
 use sqlite_items::Items;
 use std::alloc::{AllocError, Global};
+
+const NIL: Word = Word::Sym(SymId(1));
 
 /// The number of a function.
 #[tactic(auto, using(crate::proofs::ChildLemmas::number_seen))]
@@ -31,48 +32,46 @@ pub fn number(world: &World, _heap: &Heap, f: SymId) -> Option<FnId>
     world.find(f)
 }
 
-fn slot_operand(slot: Option<u64>, _heap: &Heap) -> Option<Operand>
-    ensures is { option_map (seen_operand _heap.now) result ≡ option_map slots.Slot slot }
+/// The variable of a name.
+pub fn variable_operand(environment: &Environment, _heap: &Heap, name: SymId) -> Operand
+    ensures is { seen_operand _heap.now result ≡ variable_at (seen_environment environment.now) name.0 }
     ensures word { OperandLies _heap.now result }
 {
-    match slot {
-        None => None,
-        Some(slot) => Some(Operand::Slot(slot)),
+    match environment.find(name) {
+        Some(slot) => Operand::Slot(slot),
+        None => Operand::Const(NIL),
     }
 }
 
 /// What a variable or a constant is.
 #[tactic(auto, using(crate::proofs::ChildLemmas::operand_var, crate::proofs::ChildLemmas::operand_const, crate::proofs::ChildLemmas::operand_if, crate::proofs::ChildLemmas::operand_let, crate::proofs::ChildLemmas::operand_mv, crate::proofs::ChildLemmas::operand_mv_let, crate::proofs::ChildLemmas::operand_stobj_let, crate::proofs::ChildLemmas::operand_with_local, crate::proofs::ChildLemmas::operand_must_be_equal, crate::proofs::ChildLemmas::operand_call, crate::proofs::SizeLemmas::const_word))]
-fn operand(core: &Core, environment: &Environment, heap: &Heap) -> Option<Operand>
+fn operand(core: &Core, environment: &Environment, heap: &Heap) -> Operand
     requires { CoreLies heap.now core.now }
     ensures word { OperandLies heap.now result }
-    ensures is { option_map (seen_operand heap.now) result ≡ operand_in (seen_environment environment.now) (seen_core heap.now core.now) }
+    ensures is { seen_operand heap.now result ≡ operand_in (seen_environment environment.now) (seen_core heap.now core.now) }
 {
     match core {
-        Core::Var(x) => slot_operand(environment.find(*x), heap),
-        Core::Const(word) => Some(Operand::Const(*word)),
-        Core::If(_, _, _) => None,
-        Core::Let(_, _) => None,
-        Core::Mv(_) => None,
-        Core::MvLet(_, _, _) => None,
-        Core::StobjLet { .. } => None,
-        Core::WithLocal { .. } => None,
-        Core::MustBeEqual(_, _) => None,
-        Core::Call(_, _) => None,
+        Core::Var(x) => variable_operand(environment, heap, *x),
+        Core::Const(word) => Operand::Const(*word),
+        Core::If(_, _, _) => Operand::Const(NIL),
+        Core::Let(_, _) => Operand::Const(NIL),
+        Core::Mv(_) => Operand::Const(NIL),
+        Core::MvLet(_, _, _) => Operand::Const(NIL),
+        Core::StobjLet { .. } => Operand::Const(NIL),
+        Core::WithLocal { .. } => Operand::Const(NIL),
+        Core::MustBeEqual(_, _) => Operand::Const(NIL),
+        Core::Call(_, _) => Operand::Const(NIL),
     }
 }
 
-fn index(core: Option<&Core>, environment: &Environment, heap: &Heap) -> Option<Option<Operand>>
+fn index(core: Option<&Core>, environment: &Environment, heap: &Heap) -> Option<Operand>
     requires { AtLies heap.now (option_copied core) }
-    ensures word { FoundLies heap.now result }
-    ensures is { option_map (option_map (seen_operand heap.now)) result ≡ index_in (seen_environment environment.now) (option_map (seen_core heap.now) (option_copied core.entry)) }
+    ensures word { IndexLies heap.now result }
+    ensures is { option_map (seen_operand heap.now) result ≡ index_in (seen_environment environment.now) (option_map (seen_core heap.now) (option_copied core.entry)) }
 {
     match core {
-        None => Some(None),
-        Some(core) => match operand(core, environment, heap) {
-            None => None,
-            Some(operand) => Some(Some(operand)),
-        },
+        None => None,
+        Some(core) => Some(operand(core, environment, heap)),
     }
 }
 
@@ -95,19 +94,13 @@ fn child_from(
         None => None,
         Some(parent) => match number(world, heap, accessor) {
             None => None,
-            Some(accessor) => match index(at, environment, heap) {
-                None => None,
-                Some(index) => match environment.find(parent) {
-                    None => None,
-                    Some(parent) => Some(Child {
-                        name,
-                        accessor,
-                        index,
-                        parent,
-                        returns: has(vars, name),
-                    }),
-                },
-            },
+            Some(accessor) => Some(Child {
+                name,
+                accessor,
+                index: index(at, environment, heap),
+                parent: variable_operand(environment, heap, parent),
+                returns: has(vars, name),
+            }),
         },
     }
 }

@@ -3,7 +3,7 @@
 use acl_base::{FnId, SymId, TermId, Word};
 use sqlite_items::Items;
 
-/// A variable, by its slot, or a constant.
+/// A variable, by its slot, or a constant. A name without a variable is the constant NIL.
 #[derive(Clone, Copy, Debug)]
 pub enum Operand {
     Slot(u64),
@@ -17,8 +17,8 @@ pub struct Child {
     pub accessor: FnId,
     /// Its place in an array of children.
     pub index: Option<Operand>,
-    /// The slot of the variable of the parent.
-    pub parent: u64,
+    /// The variable of the parent.
+    pub parent: Operand,
     /// Whether the producer gives it back.
     pub returns: bool,
 }

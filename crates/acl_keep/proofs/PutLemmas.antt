@@ -1,11 +1,15 @@
 -- Children that are put into their parents one after the other.
-use Rattle.std.specs.Prelude.{◌≡◌, ℕ, zero, suc, ◌+◌, ◌<◌, ◌≤◌, List, [], ◌∷◌, length, take, get_or, refl}
+use Rattle.std.specs.Prelude.{◌≡◌, ℕ, zero, suc, ◌+◌, ◌<◌, ◌≤◌, List, [], ◌∷◌, length, take, get_or, Option, Some, None, refl}
+use Rattle.std.specs.List.{cons_option}
 use Rattle.std.proofs.Common.{sym, ap, arith, subst, add-one}
 use Rattle.std.proofs.lemmas.List.{length-map}
 use Rattle.acl_heap.specs.Objects.{Objects}
 use Rattle.model_eval.specs.Keeping.{Keeping, put_all}
 use Rattle.acl_keep.specs.declared.effect.Loan.{Loan}
-use Rattle.acl_keep.specs.Seen.{seen_loan, seen_loans}
+use Rattle.acl_base.specs.declared.Word.{Word}
+use Rattle.model_symbols.specs.Symbols.{Table}
+use Rattle.acl_forms.specs.Forms.{AreWhole}
+use Rattle.acl_keep.specs.Seen.{seen_loan, seen_loans, index_words, loan_words}
 use Rattle.acl_keep.specs.Calls.{ArePut}
 
 take_all : {X : Type 0} (n : ℕ) (xs : List X) → length xs ≤ n → take n xs ≡ xs
@@ -38,3 +42,19 @@ module _ {O B : Type 0} (keeping : Keeping ℕ O B) (h : Objects) where
     pub ended : (Keeps : O → List B → Type 0) (i : ℕ) (k : O) (ls : List B) → length loans ≤ i → ArePut keeping Keeps i (seen_loans h loans) k ls → Keeps (put_all keeping (seen_loans h loans) k) ls
     ended Keeps i k ls l w =
         subst (λ (left : _). Keeps (put_all keeping left k) ls) (take_all i (seen_loans h loans) (omega (arith, l, length-map loans (seen_loan h)))) w.keeps
+
+-- ---- the words of the indices
+
+own_words : (t : Table) (h : Objects) (x : Option Word) (ws : List Word) → AreWhole t h (cons_option x ws) → AreWhole t h (index_words x)
+own_words t h None ws a = tt
+own_words t h (Some w) ws a = (a.0, tt)
+
+other_words : (t : Table) (h : Objects) (x : Option Word) (ws : List Word) → AreWhole t h (cons_option x ws) → AreWhole t h ws
+other_words t h None ws a = a
+other_words t h (Some w) ws a = a.1
+
+pub whole_index : (t : Table) (h : Objects) (loans : List Loan) (i : ℕ) (d : Loan) → i < length loans → AreWhole t h (loan_words loans)
+    → AreWhole t h (index_words (get_or loans i d).index)
+whole_index t h [] i d l a = absurd (omega arith)
+whole_index t h (x ∷ xs) zero d l a = own_words t h x.index (loan_words xs) a
+whole_index t h (x ∷ xs) (suc i) d l a = whole_index t h xs i d (omega arith) (other_words t h x.index (loan_words xs) a)

@@ -164,7 +164,8 @@ pub trait Keeper: Drop {
         ensures sound { (h : Objects) (w : Content) (n : ℕ) → IsSound self.old h w n → IsSound self.new h w n };
 
     /// Puts a child into its parent.
-    fn put(&mut self, heap: &Heap, loan: Loan) -> Result<(), AllocError>
+    fn put(&mut self, heap: &Heap, syms: &Symbols, loan: Loan) -> Result<(), AllocError>
+        requires whole { AreWhole syms.now heap.now (index_words loan.index) }
         ensures ok { OnOk result ((k : Kept) (ls : List Left) → Keeps self.old k ls → Keeps self.new (keeping.put (seen_loan heap.now loan) k) ls) }
         ensures err { OnErr result ((k : Kept) (ls : List Left) → Keeps self.old k ls → Keeps self.new k ls) }
         ensures sound { (h : Objects) (w : Content) (n : ℕ) → IsSound self.old h w n → IsSound self.new h w n };

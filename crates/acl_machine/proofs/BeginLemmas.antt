@@ -36,10 +36,10 @@ use Rattle.acl_machine.specs.Views.{Around, world_of, trees_of, code_of, childre
 use Rattle.acl_machine.specs.Turns.{rules_of, turned, Turns}
 use Rattle.acl_machine.specs.Steps.{stopped, giving, pushed, opened_to, beginning, has_next, goal_step, parts_step, goal_done, parts_next}
 
-is_zero : (n : ℕ) → nat_eq n 0 ≡ true → n ≡ 0
+pub is_zero : (n : ℕ) → nat_eq n 0 ≡ true → n ≡ 0
 is_zero n e = grind (arith, nat_tests)
 
-is_more : (n : ℕ) → nat_eq n 0 ≡ false → n ≡ suc (n - 1)
+pub is_more : (n : ℕ) → nat_eq n 0 ≡ false → n ≡ suc (n - 1)
 is_more n e = let h : 0 < n = positive n e in omega arith
   where
     positive : (n : ℕ) → nat_eq n 0 ≡ false → 0 < n
@@ -168,7 +168,7 @@ module _ {O B : Type 0} (keeping : Keeping ℕ O B) where
 
   -- ---- a term
 
-  at_term : (a : Around) (m : Machine) (t : TermId) (base : ℕ) (tree : Tree) (d : B) (kept : O) (ls : List B) → m.control ≡ control.Begin t base → tree_at a.heap a.terms t ≡ tree
+  pub at_term : (a : Around) (m : Machine) (t : TermId) (base : ℕ) (tree : Tree) (d : B) (kept : O) (ls : List B) → m.control ≡ control.Begin t base → tree_at a.heap a.terms t ≡ tree
       → turned keeping a d kept ls m ≡ begin (rules_of keeping a) (code_of a) m.room base (frames_of a d ls m m.frames) (memory_of a.heap m.values) tree (state_of a kept m)
   unfolding turn
   at_term a m t base tree d kept ls e f =

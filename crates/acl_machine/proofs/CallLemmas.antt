@@ -56,10 +56,10 @@ seen_named h (definition.OfAbstract f) = refl
 seen_named h (definition.Named name formals) = refl
 seen_named h (definition.Signed name formals signature executable) = refl
 
-not_below : (a b : ℕ) → b ≤ a → nat_lt a b ≡ false
+pub not_below : (a b : ℕ) → b ≤ a → nat_lt a b ≡ false
 not_below a b h = grind (arith, nat_tests)
 
-is_below : (a b : ℕ) → a < b → nat_lt a b ≡ true
+pub is_below : (a b : ℕ) → a < b → nat_lt a b ≡ true
 is_below a b h = grind (arith, nat_tests)
 
 module _ {O B : Type 0} (keeping : Keeping ℕ O B) where

@@ -85,3 +85,16 @@ copy_step xs done all at k count h e =
 
 pub copy_end : (xs done : List Shown) (at k count : ℕ) → count ≤ k → done ++ cells_from xs (at + k) (count - k) ≡ done
 copy_end xs done at k count h = let n : count - k ≡ 0 = omega arith in ap (λ m. done ++ cells_from xs (at + k) m) n ∙ append-nil done
+
+-- ---- the first places with other values, and no more
+
+pub one_kept : (xs : List Shown) (v : Shown) → 0 < length xs → take 1 (set xs 0 v) ≡ v ∷ []
+one_kept [] v h = absurd (omega arith)
+one_kept (x ∷ []) v h = refl
+one_kept (x ∷ y ∷ xs) v h = refl
+
+pub two_kept : (xs : List Shown) (v u : Shown) → 1 < length xs → take 2 (set (set xs 0 v) 1 u) ≡ v ∷ u ∷ []
+two_kept [] v u h = absurd (omega arith)
+two_kept (x ∷ []) v u h = absurd (omega arith)
+two_kept (x ∷ y ∷ []) v u h = refl
+two_kept (x ∷ y ∷ z ∷ xs) v u h = refl

@@ -9,3 +9,6 @@ pub mod WordLemmas
 pub mod GrowthLemmas
 pub mod PrimLemmas
 pub mod SoundLemmas
+pub mod ActualLemmas
+pub mod StaysLemmas
+pub mod WholeLemmas

@@ -35,7 +35,7 @@ use Rattle.acl_machine.specs.declared.machine.Machine.{Machine}
 use Rattle.acl_machine.specs.Cells.{cells_from, memory_of, AreWholeCells}
 use Rattle.acl_machine.specs.Views.{Around, world_of, trees_of, code_of, code_with, seen_frames, seen_stop}
 use Rattle.acl_machine.specs.Turns.{rules_of, Turns, IsFirst}
-use Rattle.acl_machine.specs.Steps.{stopped, giving, replaced, counted, holding, LoansLie}
+use Rattle.acl_machine.specs.Steps.{stopped, giving, replaced, counted, holding, LoansWhole}
 use Rattle.acl_machine.proofs.BeginLemmas.{state_of, frames_of}
 use Rattle.acl_machine.proofs.CallLemmas.{at_counted, replaced_as}
 use Rattle.acl_machine.proofs.GrowthLemmas.{same_memory, same_cells, same_frames}
@@ -47,13 +47,13 @@ grown_around a h symbols = record a { heap = h; table = record { packages = a.ta
 -- what must lie in the heap, so that the machine is the same in a larger one
 pub record LiesAll (a : Around) (m : Machine) : Type 0 where
   pub values : AreWholeCells a.table a.heap m.values
-  pub loans : LoansLie a.heap m.loans
+  pub loans : LoansWhole a.table a.heap m.loans
   pub terms : TermsLie a.heap a.terms
   pub world : WorldLies a.heap a.content
 
 module _ {O B : Type 0} (keeping : Keeping ℕ O B) where
   -- a machine of these parts
-  abbrev parts_going : ℕ → ℕ → windows.Control ℕ → StateOf O → List (windows.Frame ℕ B) → Memory ℕ → windows.Turned ℕ O B
+  abbrev pub parts_going : ℕ → ℕ → windows.Control ℕ → StateOf O → List (windows.Frame ℕ B) → Memory ℕ → windows.Turned ℕ O B
   parts_going room base c state frames memory = windows.Going (record {
     room = room;
     frames = record { step = windows.Last None; base = base } ∷ frames;
@@ -63,12 +63,12 @@ module _ {O B : Type 0} (keeping : Keeping ℕ O B) where
   })
 
   -- frames and memory in the larger heap
-  frames_grown : (a : Around) (h' : Objects) (symbols : List QualifiedName) (m : Machine) (fs : List Frame) (d : B) (ls : List B) → AreWorlds → Extends a.heap h' → LiesAll a m
+  pub frames_grown : (a : Around) (h' : Objects) (symbols : List QualifiedName) (m : Machine) (fs : List Frame) (d : B) (ls : List B) → AreWorlds → Extends a.heap h' → LiesAll a m
       → frames_of keeping (grown_around a h' symbols) d ls m fs ≡ frames_of keeping a d ls m fs
   frames_grown a h' symbols m fs d ls worlds grows l =
       ap (λ w. seen_frames h' w (forest h' a.terms) (code_with (forest h' a.terms) a.content.definitions) d ls m.names m.loans fs) (worlds.later a.heap h' a.content grows l.world)
       ∙ ap (λ ts. seen_frames h' (world_of a) ts (code_with ts a.content.definitions) d ls m.names m.loans fs) (forest_kept a.heap h' a.terms grows l.terms)
-      ∙ same_frames a.heap h' grows (world_of a) (trees_of a) (code_of a) d ls m.names m.loans fs l.loans
+      ∙ same_frames a.heap h' grows a.table (world_of a) (trees_of a) (code_of a) d ls m.names m.loans fs l.loans
 
   -- what is given after a primitive
   pub calls_gives : (a : Around) (h' : Objects) (symbols : List QualifiedName) (m : Machine) (f : Frame) (at : ℕ) (g : FnId) (count : ℕ) (name : SymId) (row arity : ℕ) (w : Word)

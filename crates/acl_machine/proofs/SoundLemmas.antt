@@ -12,23 +12,23 @@ use Rattle.acl_machine.specs.declared.frame.Halt.{Halt}
 use Rattle.acl_machine.specs.declared.frame.Borrowed.{Borrowed}
 use Rattle.acl_machine.specs.declared.machine.Machine.{Machine}
 use Rattle.acl_machine.specs.Cells.{cell, cells_from, ShownWhole, AreWholeCells}
-use Rattle.acl_machine.specs.Steps.{stopped, giving, replaced, counted, holding, LoanLies, LoansLie, IsSound}
+use Rattle.acl_machine.specs.Steps.{stopped, giving, replaced, counted, holding, LoanWhole, LoansWhole, IsSound}
 
-nil_whole : (t : Table) (h : Objects) (vs : List Shown) → AreWholeCells t h vs → (i : ℕ) → ShownWhole t h (cell [] i)
+pub nil_whole : (t : Table) (h : Objects) (vs : List Shown) → AreWholeCells t h vs → (i : ℕ) → ShownWhole t h (cell [] i)
 nil_whole t h vs a i = subst (ShownWhole t h) (past vs) (a.whole (length vs))
   where
     past : (vs : List Shown) → cell vs (length vs) ≡ cell [] i
     past [] = refl
     past (v ∷ vs) = past vs
 
-one_whole : (t : Table) (h : Objects) (vs : List Shown) (v : Shown) → AreWholeCells t h vs → ShownWhole t h v → AreWholeCells t h (v ∷ [])
+pub one_whole : (t : Table) (h : Objects) (vs : List Shown) (v : Shown) → AreWholeCells t h vs → ShownWhole t h v → AreWholeCells t h (v ∷ [])
 one_whole t h vs v a p = record { whole = go }
   where
     go : (i : ℕ) → ShownWhole t h (cell (v ∷ []) i)
     go zero = p
     go (suc i) = nil_whole t h vs a i
 
-copied_whole : (t : Table) (h : Objects) (vs : List Shown) (at n : ℕ) → AreWholeCells t h vs → AreWholeCells t h (cells_from vs at n)
+pub copied_whole : (t : Table) (h : Objects) (vs : List Shown) (at n : ℕ) → AreWholeCells t h vs → AreWholeCells t h (cells_from vs at n)
 copied_whole t h vs at n a = record { whole = go at n }
   where
     go : (at n i : ℕ) → ShownWhole t h (cell (cells_from vs at n) i)
@@ -36,20 +36,20 @@ copied_whole t h vs at n a = record { whole = go at n }
     go at (suc n) zero = a.whole at
     go at (suc n) (suc i) = go (at + 1) n i
 
-cells_grown : (t t' : Table) (h h' : Objects) (vs : List Shown) → Grown t t' h h' → AreWholeCells t h vs → AreWholeCells t' h' vs
+pub cells_grown : (t t' : Table) (h h' : Objects) (vs : List Shown) → Grown t t' h h' → AreWholeCells t h vs → AreWholeCells t' h' vs
 cells_grown t t' h h' vs g a = record { whole = λ i. by_value (cell vs i) (a.whole i) }
   where
     by_value : (v : Shown) → ShownWhole t h v → ShownWhole t' h' v
     by_value (shown.Value w) p = g.whole w p
     by_value (shown.Object x) p = tt
 
-loans_grown : (t t' : Table) (h h' : Objects) (bs : List Borrowed) → Grown t t' h h' → LoansLie h bs → LoansLie h' bs
+pub loans_grown : (t t' : Table) (h h' : Objects) (bs : List Borrowed) → Grown t t' h h' → LoansWhole t h bs → LoansWhole t' h' bs
 loans_grown t t' h h' [] g l = tt
 loans_grown t t' h h' (b ∷ bs) g l = (by_index b.loan.index l.0, loans_grown t t' h h' bs g l.1)
   where
-    by_index : (i : Option Word) → LoanLies h i → LoanLies h' i
+    by_index : (i : Option Word) → LoanWhole t h i → LoanWhole t' h' i
     by_index None p = tt
-    by_index (Some w) p = g.lies w p
+    by_index (Some w) p = g.whole w p
 
 pub sound_gives : (t t' : Table) (h h' : Objects) (m n : Machine) (s : Step) (base : ℕ) (w : Word) → Grown t t' h h' → IsSound t h m → IsWhole t' h' w → n ≡ giving (shown.Value w ∷ []) (counted (replaced s base m)) → IsSound t' h' n
 sound_gives t t' h h' m n s base w g i p q = subst (IsSound t' h') (sym q) (record {

@@ -1,6 +1,6 @@
 -- The last frame with another step.
-use Rattle.std.proofs.Common.{◌≡◌, suc, ◌-◌, List, [], ◌∷◌, ◌++◌, length, get_or, set, reverse, refl, sym, ap, ◌∙◌, arith}
-use Rattle.std.proofs.lemmas.List.{reverse-append}
+use Rattle.std.proofs.Common.{◌≡◌, ℕ, suc, ◌-◌, ◌<◌, List, [], ◌∷◌, ◌++◌, length, get_or, set, reverse, refl, sym, ap, ◌∙◌, arith, subst}
+use Rattle.std.proofs.lemmas.List.{reverse-append, length-reverse}
 use Rattle.acl_machine.specs.declared.frame.Step.{Step}
 use Rattle.acl_machine.specs.declared.frame.Frame.{Frame}
 use Rattle.acl_machine.specs.Turns.{IsFirst, with_step, with_frame}
@@ -86,3 +86,6 @@ some_first (x ∷ xs) h e = no_end (reverse (first_frames x xs)) (sym (ap revers
   where
     no_end : (ys : List Frame) → last_frame x xs ∷ ys ≡ [] → ⊥
     no_end ys e = cc
+
+pub few_reversed : (xs : List Frame) (n : ℕ) → length xs < n → length (reverse xs) < n
+few_reversed xs n h = subst (λ k. k < n) (sym (length-reverse xs)) h

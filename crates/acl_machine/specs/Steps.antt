@@ -4,7 +4,8 @@ use Rattle.acl_base.specs.declared.SymId.{SymId}
 use Rattle.acl_base.specs.declared.TermId.{TermId}
 use Rattle.acl_base.specs.declared.Word.{Word}
 use Rattle.model_symbols.specs.Symbols.{Table}
-use Rattle.acl_heap.specs.Objects.{Objects, Lies}
+use Rattle.acl_heap.specs.Objects.{Objects}
+use Rattle.acl_forms.specs.Forms.{IsWhole}
 use Rattle.acl_machine.specs.declared.frame.Borrowed.{Borrowed}
 use Rattle.acl_terms.specs.declared.outcome.Shown.{Shown}
 use Rattle.acl_terms.specs.declared.definition.Definition.{Definition}
@@ -156,18 +157,18 @@ HasPlain (f ∷ fs) = IsPlain f.step
 
 -- ---- words of loans
 
--- the word of an index lies in the heap
-abbrev pub LoanLies : Objects → Option Word → Type 0
-LoanLies h None = Unit {0}
-LoanLies h (Some w) = Lies h w
+-- the word of an index lies in the heap, and its symbols are known
+abbrev pub LoanWhole : Table → Objects → Option Word → Type 0
+LoanWhole t h None = Unit {0}
+LoanWhole t h (Some w) = IsWhole t h w
 
 -- so do those of all loans
-abbrev pub LoansLie : Objects → List Borrowed → Type 0
-LoansLie h [] = Unit {0}
-LoansLie h (b ∷ bs) = LoanLies h b.loan.index × LoansLie h bs
+abbrev pub LoansWhole : Table → Objects → List Borrowed → Type 0
+LoansWhole t h [] = Unit {0}
+LoansWhole t h (b ∷ bs) = LoanWhole t h b.loan.index × LoansWhole t h bs
 
--- what holds of a machine between its turns: the words of its values and loans lie in the heap, and symbols in values are known
+-- what holds of a machine between its turns: the words of its values and loans lie in the heap, and symbols in them are known
 pub record IsSound (t : Table) (h : Objects) (m : Machine) : Type 0 where
   pub values : AreWholeCells t h m.values
   pub given : AreWholeCells t h m.given
-  pub loans : LoansLie h m.loans
+  pub loans : LoansWhole t h m.loans

@@ -4,7 +4,8 @@ ghost use Rattle.std.specs.Prelude.{◌≡◌, ◌+◌, [], ◌∷◌, length, s
 ghost use Rattle.acl_machine.specs.declared.frame.Control.TheVariants as control;
 ghost use Rattle.acl_machine.specs.declared.frame.Step.TheVariants as step;
 ghost use Rattle.acl_machine.specs.Cells.{cell};
-ghost use Rattle.acl_machine.specs.Steps.{IsOpenedAlone, giving, opened_to, beginning, parts_step, parts_next};
+ghost use Rattle.acl_machine.specs.Steps.{IsOpenedAlone, giving, opened_to, beginning, parts_step, parts_next, IsSound};
+ghost use Rattle.acl_machine.specs.Constants.{ConstantsAreWhole};
 ghost use Rattle.acl_machine.specs.Turns.{Turns};
 ghost use Rattle.acl_machine.specs.Views.{around};
 
@@ -92,7 +93,10 @@ impl Machine {
     ) -> Result<(), AllocError>
         requires begins { self.old.control ≡ control.Begin t base }
         requires own { IsOpenedAlone (slice_get terms.now t.0) }
+        requires constants { ConstantsAreWhole _syms.now _heap.now terms.now }
+        requires sound { IsSound _syms.now _heap.now self.old }
         ensures ok { OnOk result (Turns K.keeping (around _heap.now _world.now terms.now _syms.now _limit) (around _heap.now _world.now terms.now _syms.now _limit) self.old self.new) }
+        ensures sound { OnOk result (IsSound _syms.now _heap.now self.new) }
     {
         terms.is_table();
         if t.0 >= terms.len() {

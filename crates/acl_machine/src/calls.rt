@@ -31,7 +31,7 @@ use std::alloc::{AllocError, Global};
 
 impl Machine {
     /// A call more is counted, of those that no export made.
-    fn count(&mut self, _limit: u64) -> Result<(), AllocError>
+    pub fn count(&mut self, _limit: u64) -> Result<(), AllocError>
         requires { self.old.calls < _limit }
         ensures { OnOk result (self.new ≡ counted self.old) }
     {
@@ -63,7 +63,9 @@ impl Machine {
         requires first { IsFirst frame self.old.frames }
         requires step { frame.step ≡ step.Calling at _function _count }
         requires none { _limit ≤ self.old.calls }
-        ensures { OnOk result (Turns K.keeping (around _heap.now _world.now _terms.now _syms.now _limit) (around _heap.now _world.now _terms.now _syms.now _limit) self.old self.new) }
+        requires sound { IsSound _syms.now _heap.now self.old }
+        ensures turns { OnOk result (Turns K.keeping (around _heap.now _world.now _terms.now _syms.now _limit) (around _heap.now _world.now _terms.now _syms.now _limit) self.old self.new) }
+        ensures sound { OnOk result (IsSound _syms.now _heap.now self.new) }
     {
         let base = slot_in(frame.base, at)?;
         self.frames.replace(Frame {
@@ -94,7 +96,9 @@ impl Machine {
         requires left { self.old.calls < limit }
         requires within { function.0 < length world.now.definitions }
         requires refused { MayNotCall (slice_get world.now.definitions function.0) }
-        ensures { OnOk result (Turns K.keeping (around _heap.now world.now _terms.now _syms.now limit) (around _heap.now world.now _terms.now _syms.now limit) self.old self.new) }
+        requires sound { IsSound _syms.now _heap.now self.old }
+        ensures turns { OnOk result (Turns K.keeping (around _heap.now world.now _terms.now _syms.now limit) (around _heap.now world.now _terms.now _syms.now limit) self.old self.new) }
+        ensures sound { OnOk result (IsSound _syms.now _heap.now self.new) }
     {
         let name = world.at(function).name();
         let base = slot_in(frame.base, at)?;

@@ -3,7 +3,7 @@
 ghost use Rattle.std.specs.Prelude.{◌≡◌, ◌≢◌, [], true, false, OnOk};
 ghost use Rattle.acl_machine.specs.declared.frame.Control.TheVariants as control;
 ghost use Rattle.acl_machine.specs.Turns.{Turns, IsOver, IsLate};
-ghost use Rattle.acl_machine.specs.Steps.{HasPlain};
+ghost use Rattle.acl_machine.specs.Steps.{HasPlain, IsSound};
 ghost use Rattle.acl_machine.specs.Views.{around};
 
 use crate::frame::Halt;
@@ -29,7 +29,9 @@ impl Machine {
     ) -> Result<(), AllocError>
         requires stopped { self.old.control ≡ control.Stopped _why }
         requires plain { HasPlain self.old.frames }
-        ensures { OnOk result (Turns K.keeping (around _heap.now _world.now _terms.now _syms.now _limit) (around _heap.now _world.now _terms.now _syms.now _limit) self.old self.new) }
+        requires sound { IsSound _syms.now _heap.now self.old }
+        ensures turns { OnOk result (Turns K.keeping (around _heap.now _world.now _terms.now _syms.now _limit) (around _heap.now _world.now _terms.now _syms.now _limit) self.old self.new) }
+        ensures sound { OnOk result (IsSound _syms.now _heap.now self.new) }
     {
         match self.room.checked_add(1) {
             Some(room) => {

@@ -1,17 +1,20 @@
 //! The machine that evaluates terms, over a keeper of objects.
 #![tactic(auto)]
 
+mod actuals;
 mod begin;
 mod calls;
 mod close;
 mod frame;
+mod lending;
 mod machine;
 mod resume;
 mod stack;
 mod values;
-mod words;
+pub mod words;
 
 pub use frame::{Borrowed, Control, Frame, Goal, Halt, Inside, Step, Turn};
-pub use machine::Machine;
+pub use machine::{Machine, whole};
+pub use resume::{is_false, slot_in};
 pub use stack::Stack;
 pub use values::{Loans, Names, Values};

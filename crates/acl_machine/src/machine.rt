@@ -24,6 +24,9 @@ pub struct Machine {
     pub control: Control,
     /// What is given to the innermost form, or what a guard refused.
     pub given: Values,
+    /// Room for the actuals of the call that is entered or left, and for those of the export's call around it.
+    pub actuals: Values,
+    pub outer_actuals: Values,
     /// The outermost export that a stop came inside.
     pub inside: Option<SymId>,
     /// The number of the outer call that a stop came at or inside, from 1 on.

@@ -7,7 +7,7 @@ ghost use Rattle.acl_keep.specs.Seen.{seen_shown};
 ghost use Rattle.acl_machine.specs.declared.frame.Control.TheVariants as control;
 ghost use Rattle.acl_machine.specs.declared.frame.Step.TheVariants as step;
 ghost use Rattle.acl_machine.specs.Turns.{Turns, IsFirst};
-ghost use Rattle.acl_machine.specs.Steps.{HasLast};
+ghost use Rattle.acl_machine.specs.Steps.{HasLast, IsSound};
 ghost use Rattle.acl_machine.specs.Views.{around};
 
 use crate::frame::{Frame, Goal, Step};
@@ -87,7 +87,9 @@ impl Machine {
         requires given { self.old.control ≡ control.Give }
         requires first { IsFirst frame self.old.frames }
         requires step { frame.step ≡ step.Test held other }
-        ensures { Turns K.keeping (around _heap.now _world.now _terms.now _syms.now _limit) (around _heap.now _world.now _terms.now _syms.now _limit) self.old self.new }
+        requires sound { IsSound _syms.now _heap.now self.old }
+        ensures turns { Turns K.keeping (around _heap.now _world.now _terms.now _syms.now _limit) (around _heap.now _world.now _terms.now _syms.now _limit) self.old self.new }
+        ensures sound { IsSound _syms.now _heap.now self.new }
     {
         let value = self.given.get(0);
         let next = branch(is_false(_heap, value), held, other);
@@ -114,7 +116,9 @@ impl Machine {
         requires given { self.old.control ≡ control.Give }
         requires first { IsFirst frame self.old.frames }
         requires step { frame.step ≡ step.Parts at count next left goal }
-        ensures { OnOk result (Turns K.keeping (around _heap.now _world.now _terms.now _syms.now _limit) (around _heap.now _world.now _terms.now _syms.now _limit) self.old self.new) }
+        requires sound { IsSound _syms.now _heap.now self.old }
+        ensures turns { OnOk result (Turns K.keeping (around _heap.now _world.now _terms.now _syms.now _limit) (around _heap.now _world.now _terms.now _syms.now _limit) self.old self.new) }
+        ensures sound { OnOk result (IsSound _syms.now _heap.now self.new) }
     {
         let value = self.given.get(0);
         let slot = slot_of_part(frame.base, at, count)?;
@@ -143,7 +147,9 @@ impl Machine {
         requires given { self.old.control ≡ control.Give }
         requires first { IsFirst frame self.old.frames }
         requires step { frame.step ≡ step.Several at body }
-        ensures { OnOk result (Turns K.keeping (around _heap.now _world.now _terms.now _syms.now _limit) (around _heap.now _world.now _terms.now _syms.now _limit) self.old self.new) }
+        requires sound { IsSound _syms.now _heap.now self.old }
+        ensures turns { OnOk result (Turns K.keeping (around _heap.now _world.now _terms.now _syms.now _limit) (around _heap.now _world.now _terms.now _syms.now _limit) self.old self.new) }
+        ensures sound { OnOk result (IsSound _syms.now _heap.now self.new) }
     {
         let first = slot_in(frame.base, at)?;
         self.values.set_all(first, self.given.as_slice())?;
@@ -164,7 +170,9 @@ impl Machine {
     ) -> Result<(), AllocError>
         requires given { self.old.control ≡ control.Give }
         requires last { HasLast self.old.frames }
-        ensures { OnOk result (Turns K.keeping (around _heap.now _world.now _terms.now _syms.now _limit) (around _heap.now _world.now _terms.now _syms.now _limit) self.old self.new) }
+        requires sound { IsSound _syms.now _heap.now self.old }
+        ensures turns { OnOk result (Turns K.keeping (around _heap.now _world.now _terms.now _syms.now _limit) (around _heap.now _world.now _terms.now _syms.now _limit) self.old self.new) }
+        ensures sound { OnOk result (IsSound _syms.now _heap.now self.new) }
     {
         match self.room.checked_add(1) {
             Some(room) => {

@@ -1,6 +1,6 @@
 //! The stack of values, and what frames have beside numbers.
 
-ghost use Rattle.std.specs.Prelude.{◌≡◌, ◌+◌, ◌∷◌, ◌++◌, [], OnOk, OnErr};
+ghost use Rattle.std.specs.Prelude.{◌≡◌, ◌+◌, ◌<◌, ◌∷◌, ◌++◌, [], length, slice_set, OnOk, OnErr};
 ghost use Rattle.acl_machine.specs.Cells.{cell, cells_from, Writes, WritesAll, below};
 
 use crate::frame::Borrowed;
@@ -9,12 +9,12 @@ use acl_terms::Shown;
 use std::alloc::{AllocError, Global};
 use std::marker::Model;
 
-const NIL: Shown = Shown::Value(Word::Sym(SymId(1)));
+pub(crate) const NIL: Shown = Shown::Value(Word::Sym(SymId(1)));
 
 /// Values by their numbers; what lies behind the end is NIL.
 #[derive(Drop)]
 pub struct Values {
-    items: Vec<Shown>,
+    pub(crate) items: Vec<Shown>,
 }
 
 impl Model for Values {
@@ -101,6 +101,29 @@ impl Values {
         Ok(())
     }
 
+    /// How many there are.
+    pub fn len(&self) -> usize
+        ensures { result ≡ length self.now }
+    {
+        self.items.len()
+    }
+
+    /// One more value.
+    pub fn push(&mut self, value: Shown) -> Result<(), AllocError>
+        ensures { OnOk result (self.new ≡ self.old ++ value ∷ []) }
+    {
+        self.items.push(value)?;
+        Ok(())
+    }
+
+    /// Another value in place of one. It takes no memory.
+    pub fn replace(&mut self, at: usize, value: Shown)
+        requires { at < length self.old }
+        ensures { self.new ≡ slice_set self.old at value }
+    {
+        self.items[at] = value;
+    }
+
     /// No values. It takes no memory.
     pub fn clear(&mut self)
         ensures { self.new ≡ [] }
@@ -158,6 +181,21 @@ impl Names {
         }
     }
 
+    /// The names, those of the last call last.
+    pub fn as_slice(&self) -> &[SymId]
+        ensures { result.now ≡ self.now }
+    {
+        self.items.as_slice()
+    }
+
+    /// One more name.
+    pub fn push(&mut self, name: SymId) -> Result<(), AllocError>
+        ensures { OnOk result (self.new ≡ self.old ++ name ∷ []) }
+    {
+        self.items.push(name)?;
+        Ok(())
+    }
+
     /// Takes so many of the last names out.
     pub fn drop_last(&mut self, n: u64)
         ensures { self.new ≡ below n self.old }
@@ -170,7 +208,7 @@ impl Names {
 /// The loans of forms that are under way, those of the last form last.
 #[derive(Drop)]
 pub struct Loans {
-    items: Vec<Borrowed>,
+    pub(crate) items: Vec<Borrowed>,
 }
 
 impl Model for Loans {

@@ -1,2 +1,1 @@
 pub mod FunctionLemmas
-pub mod TestLemmas

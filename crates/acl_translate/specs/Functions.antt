@@ -1,7 +1,6 @@
 -- What functions that are admitted together become in the table.
-use Rattle.std.specs.Prelude.{◌≡◌, ℕ, ◌<◌, List, [], ◌∷◌, map, length, Option, Some, None, option_map}
+use Rattle.std.specs.Prelude.{◌≡◌, ℕ, ◌<◌, List, [], ◌∷◌, map, length, true, Option, Some, is_some}
 use Rattle.std.specs.List.{AllByRecursion}
-use Rattle.acl_base.specs.declared.TermId.{TermId}
 use Rattle.acl_heap.specs.Objects.{Objects}
 use Rattle.model_terms.specs.Cores as cores
 use Rattle.model_terms.specs.Rounds as rounds
@@ -9,6 +8,8 @@ use Rattle.model_terms.specs.Worlds.{World}
 use Rattle.model_slots.specs.Trees.{Tree}
 use Rattle.model_slots.specs.Environments.{formal_environment}
 use Rattle.model_slots.specs.Resolved.{both, resolved}
+use Rattle.model_slots_laws.specs.Standing.{functions_stand}
+use Rattle.acl_terms.specs.Forms.{numbers, seen_core}
 use Rattle.acl_code.specs.declared.term.Term.{Term}
 use Rattle.acl_code.specs.Sizes.{Fits}
 use Rattle.acl_code.specs.Tables.{tree_at}
@@ -40,27 +41,27 @@ seen_function_terms h ts f = (tree_at h ts f.guard, tree_at h ts f.body)
 abbrev pub InTable : List Term → FunctionTerms → Type 0
 InTable ts f = (f.guard.0 < length ts) × (f.body.0 < length ts)
 
-abbrev pub OneInTable : List Term → Option FunctionTerms → Type 0
-OneInTable ts None = Unit {0}
-OneInTable ts (Some f) = InTable ts f
-
-abbrev pub AllInTable : List Term → Option (List FunctionTerms) → Type 0
-AllInTable ts None = Unit {0}
-AllInTable ts (Some fs) = AllByRecursion (InTable ts) fs
-
--- terms of the table that stand for these two trees, or none where there are none
-pub record IsFunction (h : Objects) (ts : List Term) (f : Option FunctionTerms) (trees : Option (Tree × Tree)) : Type 0 where
-  pub within : OneInTable ts f
-  pub is : option_map (seen_function_terms h ts) f ≡ trees
+-- terms of the table that stand for these two trees
+pub record IsFunction (h : Objects) (ts : List Term) (f : FunctionTerms) (trees : Option (Tree × Tree)) : Type 0 where
+  pub within : InTable ts f
+  pub is : Some (seen_function_terms h ts f) ≡ trees
 
 -- the same of functions
-pub record AreFunctions (h : Objects) (ts : List Term) (fs : Option (List FunctionTerms)) (all : Option (List (Tree × Tree))) : Type 0 where
-  pub within : AllInTable ts fs
-  pub are : option_map (map (seen_function_terms h ts)) fs ≡ all
+pub record AreFunctions (h : Objects) (ts : List Term) (fs : List FunctionTerms) (all : Option (List (Tree × Tree))) : Type 0 where
+  pub within : AllByRecursion (InTable ts) fs
+  pub are : Some (map (seen_function_terms h ts) fs) ≡ all
 
--- the two terms, where both are there
-abbrev pub terms_of : TermId → TermId → FunctionTerms
-terms_of guard body = record { guard = guard; body = body }
+-- ---- what a function's guard and body call
+
+-- each function that they call stands
+pub record FunctionsStand (h : Objects) (w : World) (m : Member) : Type 0 where
+  pub guard : functions_stand w (seen_core h m.guard) ≡ true
+  pub body : functions_stand w (seen_core h m.body) ≡ true
+
+-- they have trees
+pub record HasTrees (h : Objects) (w : World) (m : Member) : Type 0 where
+  pub guard : is_some (formal_tree w (numbers m.formals) (seen_core h m.guard)) ≡ true
+  pub body : is_some (formal_tree w (numbers m.formals) (seen_core h m.body)) ≡ true
 
 -- ---- sizes
 

@@ -2,6 +2,7 @@
 //! table.
 #![tactic(auto)]
 
+mod building;
 mod function_terms;
 mod functions;
 mod translating;
@@ -9,6 +10,3 @@ mod translating;
 pub use function_terms::FunctionTerms;
 pub use functions::{translate_clique, translate_macro};
 pub use translating::{translate, translate_constant, translate_expression};
-
-#[cfg(test)]
-mod tests;

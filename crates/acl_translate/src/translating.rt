@@ -1,52 +1,29 @@
 //! A form that is accepted, and its term.
 
-ghost use Rattle.std.specs.Prelude.{◌≡◌, length, [], None, IfOk, IfErr, OnOk, OnErr};
-ghost use Rattle.model_slots.specs.Environments.{formal_environment};
-ghost use Rattle.model_slots.specs.Resolved.{resolved};
+ghost use Rattle.std.specs.Prelude.{◌≡◌, length, [], true, Some, None, IfOk, IfErr, OnOk, OnErr};
 ghost use Rattle.model_terms.specs.Faults.{first_fault, expression_fault, constant_fault};
 ghost use Rattle.acl_terms.specs.Forms.{numbers, seen_core};
 ghost use Rattle.acl_terms.specs.Signatures.{seen_outs, seen_scope};
 ghost use Rattle.acl_worlds.specs.Contents.{seen_world};
 ghost use Rattle.acl_code.specs.Sizes as code;
-ghost use Rattle.acl_code.specs.Tables.{Grown, TermsLie, IsBuilt, IfNone};
+ghost use Rattle.acl_code.specs.Tables.{Grown, TermsLie, IsBuilt};
 ghost use Rattle.acl_thread.specs.Sizes as thread;
-ghost use Rattle.acl_terms.specs.declared.fault.ThreadFault.TheVariants.{Memory};
 ghost use Rattle.acl_check.specs.Says.{Says};
+ghost use Rattle.model_slots_laws.specs.Standing.{functions_stand};
+ghost use Rattle.acl_translate.specs.Functions.{formal_tree};
 
+use crate::building::build_tree;
 use acl_base::{SymId, TermId};
 use acl_check::{check_constant, check_expression, check_form};
-use acl_code::{Terms, build};
+use acl_code::Terms;
 use acl_heap::Heap;
 use acl_terms::{Core, Mode, Out, Scope, ThreadFault};
 use acl_worlds::World;
 use std::alloc::Global;
 
-/// The term of a form under these names, or want of memory.
-fn build_term(
-    alloc: Global,
-    terms: &mut Terms,
-    world: &World,
-    heap: &Heap,
-    names: &[SymId],
-    core: &Core,
-) -> Result<Option<TermId>, ThreadFault>
-    requires words { TermsLie heap.now terms.old }
-    requires fits { code.Fits heap.now (length names.now) core.now }
-    ensures built { IfOk result (λ r. IsBuilt heap.now terms.new r (resolved (seen_world heap.now world.now) (formal_environment (numbers names.now)) (length names.now) (seen_core heap.now core.now))) }
-    ensures none { IfOk result (λ r. IfNone r (terms.new ≡ terms.old)) }
-    ensures err { IfErr result (λ e. e ≡ Memory) }
-    ensures unchanged { OnErr result (terms.new ≡ terms.old) }
-    ensures grows { Grown terms.old terms.new }
-    ensures words { TermsLie heap.now terms.new }
-{
-    match build(alloc, terms, world, heap, names, core) {
-        Ok(term) => Ok(term),
-        Err(_) => Err(ThreadFault::Memory),
-    }
-}
-
 /// The term of a form under these names, where no rule fails at it in this scope, of which these outputs are expected; else
-/// its first fault. Where there is no term, the table is as it was; so it is at a fault and for want of memory.
+/// its first fault. At a fault and for want of memory the table is as it was.
+#[tactic(auto, using(crate::proofs::FunctionLemmas::form_there))]
 pub fn translate(
     alloc: Global,
     terms: &mut Terms,
@@ -57,28 +34,29 @@ pub fn translate(
     names: &[SymId],
     core: &Core,
     expected: &[Out],
-) -> Result<Option<TermId>, ThreadFault>
+) -> Result<TermId, ThreadFault>
     requires words { TermsLie heap.now terms.old }
     requires fits { code.Fits heap.now (length names.now) core.now }
     requires wide { thread.Fits heap.now core.now }
+    requires stand { functions_stand (seen_world heap.now world.now) (seen_core heap.now core.now) ≡ true }
     ensures accepted { OnOk result (first_fault (seen_world heap.now world.now) mode (seen_scope scope.now) (seen_core heap.now core.now) (seen_outs expected.now) ≡ None) }
-    ensures built { IfOk result (λ r. IsBuilt heap.now terms.new r (resolved (seen_world heap.now world.now) (formal_environment (numbers names.now)) (length names.now) (seen_core heap.now core.now))) }
-    ensures none { IfOk result (λ r. IfNone r (terms.new ≡ terms.old)) }
+    ensures built { IfOk result (λ r. IsBuilt heap.now terms.new (Some r) (formal_tree (seen_world heap.now world.now) (numbers names.now) (seen_core heap.now core.now))) }
     ensures err { IfErr result (λ e. Says (first_fault (seen_world heap.now world.now) mode (seen_scope scope.now) (seen_core heap.now core.now) (seen_outs expected.now)) e) }
     ensures unchanged { OnErr result (terms.new ≡ terms.old) }
     ensures grows { Grown terms.old terms.new }
     ensures words { TermsLie heap.now terms.new }
 {
     match check_form(alloc, world, heap, mode, scope, core, expected) {
-        Ok(()) => match build_term(alloc, terms, world, heap, names, core) {
+        Ok(()) => match build_tree(alloc, terms, world, heap, names, core) {
             Ok(term) => Ok(term),
-            Err(fault) => Err(fault),
+            Err(_) => Err(ThreadFault::Memory),
         },
         Err(fault) => Err(fault),
     }
 }
 
 /// The same of a form of which its own outputs are expected.
+#[tactic(auto, using(crate::proofs::FunctionLemmas::expression_there))]
 pub fn translate_expression(
     alloc: Global,
     terms: &mut Terms,
@@ -87,22 +65,22 @@ pub fn translate_expression(
     scope: &Scope,
     names: &[SymId],
     core: &Core,
-) -> Result<Option<TermId>, ThreadFault>
+) -> Result<TermId, ThreadFault>
     requires words { TermsLie heap.now terms.old }
     requires fits { code.Fits heap.now (length names.now) core.now }
     requires wide { thread.Fits heap.now core.now }
+    requires stand { functions_stand (seen_world heap.now world.now) (seen_core heap.now core.now) ≡ true }
     ensures accepted { OnOk result (expression_fault (seen_world heap.now world.now) (seen_scope scope.now) (seen_core heap.now core.now) ≡ None) }
-    ensures built { IfOk result (λ r. IsBuilt heap.now terms.new r (resolved (seen_world heap.now world.now) (formal_environment (numbers names.now)) (length names.now) (seen_core heap.now core.now))) }
-    ensures none { IfOk result (λ r. IfNone r (terms.new ≡ terms.old)) }
+    ensures built { IfOk result (λ r. IsBuilt heap.now terms.new (Some r) (formal_tree (seen_world heap.now world.now) (numbers names.now) (seen_core heap.now core.now))) }
     ensures err { IfErr result (λ e. Says (expression_fault (seen_world heap.now world.now) (seen_scope scope.now) (seen_core heap.now core.now)) e) }
     ensures unchanged { OnErr result (terms.new ≡ terms.old) }
     ensures grows { Grown terms.old terms.new }
     ensures words { TermsLie heap.now terms.new }
 {
     match check_expression(alloc, world, heap, scope, core) {
-        Ok(()) => match build_term(alloc, terms, world, heap, names, core) {
+        Ok(()) => match build_tree(alloc, terms, world, heap, names, core) {
             Ok(term) => Ok(term),
-            Err(fault) => Err(fault),
+            Err(_) => Err(ThreadFault::Memory),
         },
         Err(fault) => Err(fault),
     }
@@ -115,22 +93,22 @@ pub fn translate_constant(
     world: &World,
     heap: &Heap,
     core: &Core,
-) -> Result<Option<TermId>, ThreadFault>
+) -> Result<TermId, ThreadFault>
     requires words { TermsLie heap.now terms.old }
     requires fits { code.Fits heap.now 0 core.now }
     requires wide { thread.Fits heap.now core.now }
+    requires stand { functions_stand (seen_world heap.now world.now) (seen_core heap.now core.now) ≡ true }
     ensures accepted { OnOk result (constant_fault (seen_world heap.now world.now) (seen_core heap.now core.now) ≡ None) }
-    ensures built { IfOk result (λ r. IsBuilt heap.now terms.new r (resolved (seen_world heap.now world.now) [] 0 (seen_core heap.now core.now))) }
-    ensures none { IfOk result (λ r. IfNone r (terms.new ≡ terms.old)) }
+    ensures built { IfOk result (λ r. IsBuilt heap.now terms.new (Some r) (formal_tree (seen_world heap.now world.now) [] (seen_core heap.now core.now))) }
     ensures err { IfErr result (λ e. Says (constant_fault (seen_world heap.now world.now) (seen_core heap.now core.now)) e) }
     ensures unchanged { OnErr result (terms.new ≡ terms.old) }
     ensures grows { Grown terms.old terms.new }
     ensures words { TermsLie heap.now terms.new }
 {
     match check_constant(alloc, world, heap, core) {
-        Ok(()) => match build_term(alloc, terms, world, heap, &[], core) {
+        Ok(()) => match build_tree(alloc, terms, world, heap, &[], core) {
             Ok(term) => Ok(term),
-            Err(fault) => Err(fault),
+            Err(_) => Err(ThreadFault::Memory),
         },
         Err(fault) => Err(fault),
     }

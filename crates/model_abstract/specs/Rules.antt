@@ -35,12 +35,9 @@ module _ (packages : List Package) (f : ℕ) (state : State QualifiedName) where
   abbrev pub gives_weighed : Thing → Outcome QualifiedName
   gives_weighed o = if nat_le (weight o) max_weight then gives_value o else stops_here (Large f) state
 
-  -- an argument or a part of one, which a logic function may have made too wide or too heavy
+  -- an argument or a part of one, which is given as it is, as checked evaluation gives it
   abbrev pub gives_old : Thing → Outcome QualifiedName
-  gives_old (Integer n) = gives_number (in_range n)
-  gives_old (Symbol s) = gives_value (Symbol s)
-  gives_old (Text bytes) = gives_weighed (Text bytes)
-  gives_old (Pair a d) = gives_weighed (Pair a d)
+  gives_old o = gives_value o
 
   -- an integer of any width shifted
   abbrev pub gives_shifted : ℤ → ℤ → Outcome QualifiedName

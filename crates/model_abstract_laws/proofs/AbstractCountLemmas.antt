@@ -1,7 +1,7 @@
 -- Abstract evaluation counts: its outcomes are those of rules that know every list and value.
 use Rattle.std.proofs.Common.{ℕ, ◌≤◌, List, [], Option, Some, None, refl, subst}
 use Rattle.std.specs.Prelude.{nat_le, ℤ, pos, negsuc, unwrap_or}
-use Rattle.model_objects.specs.Object.{Integer, Symbol, Text, Pair, weight, max_weight}
+use Rattle.model_objects.specs.Object.{weight, max_weight}
 use Rattle.model_symbols.specs.Symbols.{QualifiedName, Package}
 use Rattle.model_prims.specs.Kinds.{by_name}
 use Rattle.model_prims.specs.Numbers.{shifted, in_range, power_in_range, shift_in_range}
@@ -35,10 +35,7 @@ module _ (limit f : ℕ) (state : State QualifiedName) where
   counts_weighed packages o = counts_if limit state (nat_le (weight o) max_weight) _ _ (grown_same limit state) (grown_same limit state, λ q. absurd q)
 
   counts_old : (packages : List Package) (o : Thing) → Counts limit state (gives_old packages f state o)
-  counts_old packages (Integer n) = counts_number packages (in_range n)
-  counts_old packages (Symbol s) = grown_same limit state
-  counts_old packages (Text bytes) = counts_weighed packages (Text bytes)
-  counts_old packages (Pair a d) = counts_weighed packages (Pair a d)
+  counts_old packages o = grown_same limit state
 
   counts_shifted : (packages : List Package) (i c : ℤ) → Counts limit state (gives_shifted packages f state i c)
   counts_shifted packages i (pos c) = counts_number packages (shift_in_range i (pos c))

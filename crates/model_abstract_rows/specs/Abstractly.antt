@@ -181,10 +181,10 @@ abstract_rows =
     (Gives (Plain (number 0) ∷ []) (state 5 3))
     ∷ []
 
--- what a logic function made too wide is shifted as it is, and is no result itself
+-- what a logic function made too wide is shifted as it is, and is given as it is where an argument is
 pub record BoundsAreKept : Type 0 where
   pub shifted : bounded_value [] x (state 0 0) (Shift (pos (2 ^ 200)) (negsuc 129)) ≡ Gives (Plain (number (2 ^ 70)) ∷ []) (state 0 0)
-  pub argument : bounded_value [] x (state 0 0) (Old (number (2 ^ 200))) ≡ Stops (Range x) (origin None 1) (state 0 0)
+  pub argument : bounded_value [] x (state 0 0) (Old (number (2 ^ 200))) ≡ Gives (Plain (number (2 ^ 200)) ∷ []) (state 0 0)
 
 -- the foundation's list (7) corresponds to the abstract list (7)
 pub record Corresponds : Type 0 where

@@ -1,12 +1,15 @@
 -- The laws on parts, each from the lemma that what is found fits.
-use Rattle.std.proofs.Common.{Option, subst}
+use Rattle.std.proofs.Common.{ℕ, List, Option, subst}
 use Rattle.std.specs.Prelude.{option_and_then}
+use Rattle.model_objects.specs.Object.{Object}
 use Rattle.model_expansion.specs.Layers.{Found, Made, made_of}
 use Rattle.model_expansion.specs.Expansion.{Expanded, Look, look_at}
-use Rattle.model_expansion_parts.specs.Laws.{RowsHaveParts, LooksHaveParts, PlacesHaveParts, NodesHaveParts}
+use Rattle.model_expansion_parts.specs.Laws.{RowsHaveParts, LooksHaveParts, PlacesHaveParts, NodesHaveParts, PartsAreKnown}
 use Rattle.model_expansion_parts.proofs.RowLemmas.{FitsIfAny, made_fits}
 use Rattle.model_expansion_parts.proofs.PlaceLemmas.{LookFits, OutcomeFits, PlaceFits, option_fits, core_fits, call_fits, look_fits, built_fits, looked_fits, settled_fits, settle_fits, row_fits, part_fits}
 use Rattle.model_expansion_parts.proofs.NodeLemmas.{grown_count, node_parts}
+use Rattle.model_expansion_parts.proofs.KnownRowLemmas.{KnowsIfAny, made_known}
+use Rattle.model_expansion_parts.proofs.KnownPlaceLemmas.{AllKnownIfAny, look_known, values_known, node_known}
 
 pub rows_have_parts : RowsHaveParts
 rows_have_parts = record {
@@ -34,4 +37,12 @@ pub nodes_have_parts : NodesHaveParts
 nodes_have_parts = record {
   all = grown_count;
   node = λ x left a p before after k ps grow fs e f. node_parts k ps grow before after fs (subst (λ (m : Expanded Found). PlaceFits m) e (part_fits x left a p)) f;
+}
+
+pub parts_are_known : PartsAreKnown
+parts_are_known = record {
+  made = λ n symbols row os m two g h e. subst (λ (m : Option Made). KnowsIfAny n m) e (made_known n symbols two row os g h);
+  look = λ n x symbols o s h. look_known n x s symbols o h;
+  values = λ n symbols formals os vs two d h e. subst (λ (v : Option (List (Object ℕ))). AllKnownIfAny n v) e (values_known n two symbols formals d os h);
+  node = λ n k fs two h. node_known n two k fs h;
 }

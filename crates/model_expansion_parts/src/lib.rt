@@ -1,7 +1,7 @@
-//! Laws on the nodes of an expansion: each has as many parts as its kind asks for.
+//! Laws on the nodes of an expansion: each has as many parts as its kind asks for, and known symbols make known symbols.
 #![tactic(auto)]
 
-ghost use Rattle.model_expansion_parts.specs.Laws.{RowsHaveParts, LooksHaveParts, PlacesHaveParts, NodesHaveParts};
+ghost use Rattle.model_expansion_parts.specs.Laws.{RowsHaveParts, LooksHaveParts, PlacesHaveParts, NodesHaveParts, PartsAreKnown};
 
 /// What a row makes has as many parts as its kind asks for.
 #[tactic(auto, using(crate::proofs::LawLemmas::rows_have_parts))]
@@ -25,4 +25,10 @@ pub fn places_have_parts()
 #[tactic(auto, using(crate::proofs::LawLemmas::nodes_have_parts))]
 pub fn nodes_have_parts()
     ensures { NodesHaveParts }
+{}
+
+/// What is made of forms with known symbols has known symbols, where what the world supplies has.
+#[tactic(auto, using(crate::proofs::LawLemmas::parts_are_known))]
+pub fn parts_are_known()
+    ensures { PartsAreKnown }
 {}

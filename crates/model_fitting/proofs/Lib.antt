@@ -1,5 +1,5 @@
 pub mod CallLemmas
-pub mod KnownLemmas
+pub mod AcceptedLemmas
 pub mod CircularLemmas
 pub mod ActualLemmas
 pub mod DefinitionLemmas

@@ -1,11 +1,14 @@
 -- A function that gives a stobj that it is not given: by the rules it may, since nothing but its own call gives the stobj. Its
 -- call never ends.
-use Rattle.std.specs.Prelude.{◌≡◌, pos, [], ◌∷◌, true, None}
+use Rattle.std.specs.Prelude.{◌≡◌, pos, [], ◌∷◌, true, Some, None}
 use Rattle.model_objects.specs.Object.{Integer}
+use Rattle.model_prims.specs.Kinds.{by_number, nil_of}
 use Rattle.model_terms.specs.Cores.{Core, Const, Var, Let, Call, none, more}
 use Rattle.model_terms.specs.Worlds.{World, Definition, Concrete, Named, Signed, Stobj, Signature}
 use Rattle.model_terms.specs.Rounds.{Member, clique}
 use Rattle.model_terms.specs.Faults.{clique_fault}
+use Rattle.model_slots.specs.Trees as trees
+use Rattle.model_slots.specs.Trees.{Tree}
 use Rattle.model_slots.specs.Resolved.{resolved}
 
 -- a stobj of no fields, number 1
@@ -29,8 +32,12 @@ while_named = cell ∷ (Named 0 [] ∷ [])
 abbrev pub while_signed : World
 while_signed = cell ∷ (Signed 0 [] circular_signature true ∷ [])
 
--- its signature gives the stobj, no rule fails in it, and its body has no tree
-pub record IsAcceptedWithoutTree : Type 0 where
+-- the tree of its body: the stobj's name has no variable there, and is NIL
+abbrev pub circular_tree : Tree
+circular_tree = trees.Let 0 (trees.more (trees.Call 0 1 trees.none) trees.none) (trees.Leaf (trees.Const (nil_of by_number)))
+
+-- its signature gives the stobj, no rule fails in it, and its body has this tree
+pub record IsAcceptedWithTree : Type 0 where
   pub signature : clique while_named (circular ∷ []) ≡ circular_signature ∷ []
   pub accepted : clique_fault while_signed 0 (circular ∷ []) ≡ None
-  pub missing : resolved while_signed [] 0 circular_body ≡ None
+  pub tree : resolved while_signed [] 0 circular_body ≡ Some circular_tree

@@ -10,27 +10,21 @@ use Rattle.model_eval.specs.Outcomes.{StateOf}
 use Rattle.model_eval.specs.Keeping.{Keeping}
 use Rattle.model_eval.specs.Variables.{Variables}
 use Rattle.model_eval.specs.Checked.{checked_keeping}
-use Rattle.model_accepted.specs.Threaded.{IsFormed, Suits, AreFormals, IsThreaded}
+use Rattle.model_accepted.specs.Threaded.{IsFormed, Suits, IsThreaded}
 use Rattle.model_accepted.specs.StobjScopes.{IsStobj, AreVariables}
 use Rattle.model_machine.specs.Frames.{Turned, Going}
 use Rattle.model_machine.specs.Ending.{begun_on}
 use Rattle.model_window.specs.Stands.{Origins, Worlds}
 use Rattle.model_window.specs.Laws.{begun_in, FitsFor}
-use Rattle.model_slots.specs.Environments.{Environment, names_in, formal_environment}
+use Rattle.model_slots.specs.Environments.{formal_environment}
 use Rattle.model_slots.specs.Resolved.{resolved}
-use Rattle.model_slots_laws.specs.Known.{Covers, IsKnown}
 use Rattle.model_fitting.specs.Giving.{GiveOnlyGiven, HasOwnNames, DefinedGiveOnlyGiven}
 use Rattle.model_fitting.specs.Steps.{TurnFits, WasAccepted, AreOrigins}
 
--- where functions give no stobj but those that they are given, a form in which no rule fails gives no stobj but those in
--- scope, it is known, and it has a tree
-pub record AcceptedAreKnown : Type 0 where
+-- where functions give no stobj but those that they are given, a form in which no rule fails gives no stobj but those in scope
+pub record AcceptedGiveOnlyGiven : Type 0 where
   pub gives : (w : World) → GiveOnlyGiven w → (scope : Scope) → HasOwnNames scope → (f : Core) (expected : List Out) → IsFormed w f → first_fault w Executable scope f expected ≡ None
       → (x : ℕ) → has (stobjs expected) x ≡ true → IsStobj scope x
-  pub known : (w : World) → GiveOnlyGiven w → (scope : Scope) → HasOwnNames scope → (names : List ℕ) → Covers names scope → (f : Core) (expected : List Out) → IsFormed w f
-      → first_fault w Executable scope f expected ≡ None → IsKnown w names f
-  pub tree : (w : World) → GiveOnlyGiven w → (scope : Scope) → HasOwnNames scope → (env : Environment) → Covers (names_in env) scope → (s : ℕ) (f : Core) (expected : List Out) → IsFormed w f
-      → first_fault w Executable scope f expected ≡ None → is_some (resolved w env s f) ≡ true
 
 -- a machine over forms that does what accepted forms do fits in each turn, and so does one that is begun on a form in which no
 -- rule fails, with variables as its scope says
@@ -50,8 +44,7 @@ pub record OriginsExist : Type 0 where
 pub record GivenWhereDefinedGive : Type 0 where
   pub given : (w : World) → IsThreaded w → DefinedGiveOnlyGiven w → GiveOnlyGiven w
 
--- a guard or a body over formals has a tree in the world in which it was accepted, so in that of its origins, where functions
--- there give only what they are given
+-- a guard or a body over formals has a tree in the world in which it was accepted, so in that of its origins
 pub record CheckedHaveTrees : Type 0 where
-  pub form : (w c : World) (formals : List ℕ) (ins : List Out) (form : Core) (expected : List Out) → AreFormals formals ins → WasAccepted w c formals ins form expected → GiveOnlyGiven c
+  pub form : (w c : World) (formals : List ℕ) (ins : List Out) (form : Core) (expected : List Out) → WasAccepted w c formals ins form expected
       → is_some (resolved c (formal_environment formals) (length formals) form) ≡ true

@@ -1,22 +1,23 @@
 //! Accepted forms fit: what is known of a form in which no rule fails.
 #![tactic(auto)]
 
-ghost use Rattle.model_fitting.specs.Circular.{IsAcceptedWithoutTree};
-ghost use Rattle.model_fitting.specs.Laws.{AcceptedAreKnown, AcceptedFit, OriginsExist, GivenWhereDefinedGive, CheckedHaveTrees};
+ghost use Rattle.model_fitting.specs.Circular.{IsAcceptedWithTree};
+ghost use Rattle.model_fitting.specs.Laws.{AcceptedGiveOnlyGiven, AcceptedFit, OriginsExist, GivenWhereDefinedGive, CheckedHaveTrees};
 ghost use Rattle.model_eval.specs.ListsKeeping.{lists_keeping};
 ghost use Rattle.model_eval.specs.PlacesKeeping.{places_keeping};
 
 /// In a world whose functions give no stobj but those that they are given, a form in which no rule fails gives no stobj but
-/// those in scope; each stobj that it binds anew has a variable around it, so that it has a tree.
-#[tactic(auto, using(crate::proofs::KnownLemmas::accepted_are_known))]
-pub fn accepted_forms_are_known()
-    ensures { AcceptedAreKnown }
+/// those in scope.
+#[tactic(auto, using(crate::proofs::AcceptedLemmas::accepted_give_only_given))]
+pub fn accepted_forms_give_only_what_they_are_given()
+    ensures { AcceptedGiveOnlyGiven }
 {}
 
-/// The rules accept a function that gives a stobj that only its own call gives it. Its body has no tree.
-#[tactic(auto, using(crate::proofs::CircularLemmas::accepted_without_tree))]
-pub fn circular_functions_are_accepted_without_tree()
-    ensures { IsAcceptedWithoutTree }
+/// The rules accept a function that gives a stobj that only its own call gives it. In its body's tree the stobj's name, which
+/// has no variable, is NIL.
+#[tactic(auto, using(crate::proofs::CircularLemmas::accepted_with_tree))]
+pub fn circular_functions_are_accepted()
+    ensures { IsAcceptedWithTree }
 {}
 
 /// A machine over forms that is begun on a form in which no rule fails, in a world whose functions were accepted, binds in each
@@ -39,8 +40,7 @@ pub fn functions_give_only_what_they_are_given()
     ensures { GivenWhereDefinedGive }
 {}
 
-/// Guards and bodies of functions have trees in the worlds in which they were checked, where functions there give no stobj but
-/// those that they are given.
+/// Guards and bodies of functions have trees in the worlds in which they were checked.
 #[tactic(auto, using(crate::proofs::FormalLemmas::checked_have_trees))]
 pub fn checked_forms_have_trees()
     ensures { CheckedHaveTrees }

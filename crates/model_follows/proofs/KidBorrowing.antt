@@ -85,7 +85,7 @@ module _ (w : World) (base : Ground) (threaded : IsThreaded w) (followed : Lawfu
 
   -- ---- indices and loans
 
-  index_same : (scope : Scope) (vars : List ℕ) (variables : Variables ℕ) (s : State ℕ) (t : StateOf (Store ℕ)) (values : Values) (index : Option Core) → Stage w base scope variables s t values → option_map_or (is_index scope vars) index true ≡ true
+  pub index_same : (scope : Scope) (vars : List ℕ) (variables : Variables ℕ) (s : State ℕ) (t : StateOf (Store ℕ)) (values : Values) (index : Option Core) → Stage w base scope variables s t values → option_map_or (is_index scope vars) index true ≡ true
       → index_value thy index values ≡ option_map (named (symbol_at s.symbols)) (index_of rules index variables)
   index_same scope vars variables s t values None stage e = refl
   index_same scope vars variables s t values (Some (Var x)) stage e = go (kind_in scope x) refl (both_true (is_ordinary_in scope x) (not (has vars x)) e).0

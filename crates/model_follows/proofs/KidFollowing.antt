@@ -561,6 +561,29 @@ module _ (w : World) (base : Ground) (threaded : IsThreaded w) (followed : Lawfu
           finish r = λ budget nest start. spending budget (length (put_loans vars (logic_loans thy ns forms values))) start
               (λ calls. form_counted thy consumer (bind vars (parts_for vars r) [] ++ with_parent (put_loans vars (logic_loans thy ns forms values)) (bind vars (parts_for vars r) []) values) budget nest calls)
 
+      -- where the consumer is evaluated
+      smaller : (x : ℕ) → IsStobj outer x → IsStobj scope x
+      smaller x i = consumer_objects c scope p ns ls same_names inside vars vs variables bk.done.outputs x i
+
+      kin_q : AreKin w base itself scope q.symbols q.stobjs lists_q
+      kin_q =
+          subst (λ (m : List QualifiedName). AreKin w base itself scope m q.stobjs lists_q) (sym bk.names_same) (subst (λ (o : Stobjs ℕ). AreKin w base itself scope u.symbols o lists_q) (sym q_is) kin_after_it)
+
+      sound_q : IsSound w base.table scope q.symbols q.stobjs
+      sound_q =
+          subst (λ (m : List QualifiedName). IsSound w base.table scope m q.stobjs) (sym bk.names_same) (subst (λ (o : Stobjs ℕ). IsSound w base.table scope u.symbols o) (sym q_is) sound_after)
+
+      consumer_stage : Stage w base outer (bound vars vs variables) q bk.to (bindings ++ rest)
+      consumer_stage = record {
+        are = outer_are;
+        stands = stands_less w outer scope q.stobjs bk.to.stobjs smaller (stands_moved w scope (May scope expected) s t q bk.to (λ x i. i.1) stage.stands bk.moves);
+        same = bk.moves.same;
+        sound = sound_less w base outer scope q.symbols q.stobjs smaller sound_q;
+        lists = lists_q;
+        kin = kin_less w base itself outer scope q.symbols q.stobjs lists_q smaller kin_q;
+        named = subst (λ (m : List QualifiedName). AreHeld outer (bound vars vs variables) m lists_q (bindings ++ rest)) (sym bk.names_same) outer_named;
+      }
+
       after_producer : IfGives (Mine w base scope s (form_counted thy whole values)) (ev consumer (bound vars vs variables) q)
       after_producer =
           gives_map (Did w base outer expected q bk.to (form_counted thy consumer (bindings ++ rest))) (Mine w base scope s (form_counted thy whole values)) (ev consumer (bound vars vs variables) q)
@@ -576,27 +599,15 @@ module _ (w : World) (base : Ground) (threaded : IsThreaded w) (followed : Lawfu
             ends = ended_as w (form_counted thy consumer (bindings ++ rest)) (form_counted thy whole values) (all_held z.symbols (held_after outer expected lists_q e.mine.last) given) ends_whole
                 (subst (λ (os : List Thing). Ended w (form_counted thy consumer (bindings ++ rest)) os) (sym (outputs_returned outer z.symbols expected expected lists_q e.mine.last given e.outputs (λ x i. i))) e.mine.ends);
           })
-          (did w base threaded limit thy ev el h f c mode outer consumer None expected (record { suited_world = suited_world; runs = n; accepted = second; formed = formed_consumer; suited = suited_consumer }) (bound vars vs variables) q bk.to (bindings ++ rest)
-          (record {
-            are = outer_are;
-            stands = stands_less w outer scope q.stobjs bk.to.stobjs smaller (stands_moved w scope (May scope expected) s t q bk.to (λ x i. i.1) stage.stands bk.moves);
-            same = bk.moves.same;
-            sound = sound_less w base outer scope q.symbols q.stobjs smaller sound_q;
-            lists = lists_q;
-            kin = kin_less w base itself outer scope q.symbols q.stobjs lists_q smaller kin_q;
-            named = subst (λ (m : List QualifiedName). AreHeld outer (bound vars vs variables) m lists_q (bindings ++ rest)) (sym bk.names_same) outer_named;
-          }))
-        where
-          smaller : (x : ℕ) → IsStobj outer x → IsStobj scope x
-          smaller x i = consumer_objects c scope p ns ls same_names inside vars vs variables bk.done.outputs x i
+          (did w base threaded limit thy ev el h f c mode outer consumer None expected (record { suited_world = suited_world; runs = n; accepted = second; formed = formed_consumer; suited = suited_consumer }) (bound vars vs variables) q bk.to (bindings ++ rest) consumer_stage)
 
-          kin_q : AreKin w base itself scope q.symbols q.stobjs lists_q
-          kin_q =
-              subst (λ (m : List QualifiedName). AreKin w base itself scope m q.stobjs lists_q) (sym bk.names_same) (subst (λ (o : Stobjs ℕ). AreKin w base itself scope u.symbols o lists_q) (sym q_is) kin_after_it)
+    pub children_lent : (v : StateOf (Store ℕ)) × Stage w base (producer_scope c scope (Some holds.parent) ns) (loaned_variables rules ls variables) (record s { stobjs = lent ls s.stobjs ++ s.stobjs }) v logic_values
+    children_lent = (start_t, inside_stage)
 
-          sound_q : IsSound w base.table scope q.symbols q.stobjs
-          sound_q =
-              subst (λ (m : List QualifiedName). IsSound w base.table scope m q.stobjs) (sym bk.names_same) (subst (λ (o : Stobjs ℕ). IsSound w base.table scope u.symbols o) (sym q_is) sound_after)
+    pub children_back : IfGives (λ vs q. AreOutputs (producer_scope c scope (Some holds.parent) ns) (name_kinds c vars) vs × ((v : StateOf (Store ℕ)) × (others : Values) × Stage w base (consumer_scope c scope ns vars) (bound vars vs variables) q v others)) (producing rules ev vars producer variables ls s)
+    children_back =
+        gives_map Back (λ vs q. AreOutputs (producer_scope c scope (Some holds.parent) ns) (name_kinds c vars) vs × ((v : StateOf (Store ℕ)) × (others : Values) × Stage w base (consumer_scope c scope ns vars) (bound vars vs variables) q v others)) (producing rules ev vars producer variables ls s)
+        (λ vs q bk. (bk.done.outputs, (bk.to, bindings vs q bk ++ rest vs q bk, consumer_stage vs q bk))) gives_back
 
     pub follows_loans : IfGives (Mine w base scope s (form_counted thy whole values)) (then_with (producing rules ev vars producer variables ls s) (λ given after. ev consumer (bound vars given variables) after))
     follows_loans = gives_then Back (Mine w base scope s (form_counted thy whole values)) (producing rules ev vars producer variables ls s) (λ given after. ev consumer (bound vars given variables) after) gives_back after_producer

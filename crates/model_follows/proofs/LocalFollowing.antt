@@ -28,7 +28,7 @@ use Rattle.model_logic.specs.Logic.{Theory, Thing, Values, value_in, bind_others
 use Rattle.model_eval_laws.specs.Scope.{names}
 use Rattle.model_eval_laws.proofs.Lists.{same_number}
 use Rattle.model_accepted.specs.Threaded.{layout_of, IsFormed, IsThreaded}
-use Rattle.model_accepted.specs.StobjScopes.{IsStobj, IsOfKind, AreVariables}
+use Rattle.model_accepted.specs.StobjScopes.{AreOutputs, IsStobj, IsOfKind, AreVariables}
 use Rattle.model_in_place.specs.Standing.{Stands, AreSame}
 use Rattle.model_in_place.specs.Writes.{Moves}
 use Rattle.model_accepted.specs.Accepted.{Accepted}
@@ -316,6 +316,18 @@ module _ (w : World) (base : Ground) (threaded : IsThreaded w) (followed : Lawfu
           (ends_then logic (λ v. form_counted thy body (bind_others stobj locals (element_values locals 0 v) values)) producer_ends.value v producer_ends.ends
           (subst (λ (os : List Thing). Ends (form_counted thy body (bind_others stobj locals os values)) v) (sym things_are) e))
 
+      -- where the body is evaluated
+      body_stage : Stage w base outer (bound locals vs variables) q (unmaking places_keeping d.to) (bind_others stobj locals things values)
+      body_stage = record {
+        are = outer_are;
+        stands = stands_less w outer scope q.stobjs (unmaking places_keeping d.to).stobjs (λ x i. body_objects c scope stobj locals vs variables d.outputs x i) stands_q;
+        same = moved.same;
+        sound = sound_less w base outer scope u.symbols q.stobjs (λ x i. body_objects c scope stobj locals vs variables d.outputs x i) sound_q;
+        lists = outer_lists;
+        kin = kin_less w base itself outer scope u.symbols q.stobjs outer_lists (λ x i. body_objects c scope stobj locals vs variables d.outputs x i) kin_q;
+        named = outer_named;
+      }
+
       after_producer : IfGives (Mine w base scope s (form_counted thy whole values)) (ev body (bound locals vs variables) q)
       unfolding form_value
       after_producer =
@@ -336,16 +348,7 @@ module _ (w : World) (base : Ground) (threaded : IsThreaded w) (followed : Lawfu
           })
           (did w base threaded limit thy ev el h f c mode outer body None expected
           (record { suited_world = suited_world; runs = n; accepted = (of_with_local c mode scope formal expected stobj locals producer body accepted).1; formed = formed_body; suited = suited_body })
-          (bound locals vs variables) q (unmaking places_keeping d.to) (bind_others stobj locals things values)
-          (record {
-            are = outer_are;
-            stands = stands_less w outer scope q.stobjs (unmaking places_keeping d.to).stobjs (λ x i. body_objects c scope stobj locals vs variables d.outputs x i) stands_q;
-            same = moved.same;
-            sound = sound_less w base outer scope u.symbols q.stobjs (λ x i. body_objects c scope stobj locals vs variables d.outputs x i) sound_q;
-            lists = outer_lists;
-            kin = kin_less w base itself outer scope u.symbols q.stobjs outer_lists (λ x i. body_objects c scope stobj locals vs variables d.outputs x i) kin_q;
-            named = outer_named;
-          }))
+          (bound locals vs variables) q (unmaking places_keeping d.to) (bind_others stobj locals things values) body_stage)
 
     -- an outcome without the local stobj
     unmade : (D : List (Shown ℕ) → State ℕ → Type 0) (p : Outcome ℕ) → IfGives D p → IfGives (λ vs z. (u : State ℕ) × (z ≡ unmaking lists_keeping u) × D vs u) (with_state (unmaking lists_keeping) p)
@@ -353,23 +356,45 @@ module _ (w : World) (base : Ground) (threaded : IsThreaded w) (followed : Lawfu
     unmade D (Stops stop origin u) m = tt
     unmade D Unknown m = m
 
+    -- where the producer is evaluated
+    new_stage : Stage w base inner ((stobj, StobjNamed stobj) ∷ variables) with_it inner_t ((stobj, made) ∷ values)
+    new_stage = record {
+      are = local_variables c scope stobj variables named_object stage.are;
+      stands = stands_new w c scope stobj l s.stobjs t.stobjs stage.stands (new_stobjs_stand.fields (layout_of w stobj));
+      same = (let same : AreSame (one_more_call s) (one_more_call t) = counted_same w s t stage.same in record { symbols = same.symbols; calls = same.calls; outer = same.outer });
+      sound = inner_sound;
+      lists = inner_lists;
+      kin = inner_kin;
+      named = inner_named;
+    }
+
+    pub producer_ready : (v : StateOf (Store ℕ)) × Stage w base inner ((stobj, StobjNamed stobj) ∷ variables) with_it v ((stobj, made) ∷ values)
+    producer_ready = (inner_t, new_stage)
+
+    produced : IfGives (λ vs z. (u : State ℕ) × (z ≡ unmaking lists_keeping u) × Did w base inner (name_kinds c locals) with_it inner_t logic vs u) (counting limit s (with_fresh (on_lists w threaded base.table.packages limit) ev stobj (Some l) producer variables))
+    produced =
+        gives_counting (λ vs z. (u : State ℕ) × (z ≡ unmaking lists_keeping u) × Did w base inner (name_kinds c locals) with_it inner_t logic vs u) limit s (with_fresh (on_lists w threaded base.table.packages limit) ev stobj (Some l) producer variables)
+        (unmade (Did w base inner (name_kinds c locals) with_it inner_t logic) (ev producer ((stobj, StobjNamed stobj) ∷ variables) with_it)
+        (did w base threaded limit thy ev el h f c mode inner producer None (name_kinds c locals)
+        (record { suited_world = suited_world; runs = n; accepted = (of_with_local c mode scope formal expected stobj locals producer body accepted).0; formed = formed_producer; suited = suited_producer })
+        ((stobj, StobjNamed stobj) ∷ variables) with_it inner_t ((stobj, made) ∷ values) new_stage))
+
+    -- and where the body is, once the producer gave values
+    pub body_ready : IfGives (λ vs z. AreOutputs (local_scope c scope stobj) (name_kinds c locals) vs × ((v : StateOf (Store ℕ)) × (others : Values) × Stage w base (body_scope c scope stobj locals) (bound locals vs variables) z v others))
+        (counting limit s (with_fresh (on_lists w threaded base.table.packages limit) ev stobj (Some l) producer variables))
+    body_ready =
+        gives_map (λ vs z. (u : State ℕ) × (z ≡ unmaking lists_keeping u) × Did w base inner (name_kinds c locals) with_it inner_t logic vs u)
+        (λ vs z. AreOutputs (local_scope c scope stobj) (name_kinds c locals) vs × ((v : StateOf (Store ℕ)) × (others : Values) × Stage w base (body_scope c scope stobj locals) (bound locals vs variables) z v others))
+        (counting limit s (with_fresh (on_lists w threaded base.table.packages limit) ev stobj (Some l) producer variables))
+        (λ vs z m. (
+          m.2.outputs,
+          (unmaking places_keeping m.2.to, bind_others stobj locals (things vs m.0 m.2) values, subst (λ (y : State ℕ). Stage w base (body_scope c scope stobj locals) (bound locals vs variables) y (unmaking places_keeping m.2.to) (bind_others stobj locals (things vs m.0 m.2) values)) (sym m.1) (body_stage vs m.0 m.2)),
+        )) produced
+
     pub follows_local : IfGives (Mine w base scope s (form_counted thy whole values))
         (then_with (counting limit s (with_fresh (on_lists w threaded base.table.packages limit) ev stobj (Some l) producer variables)) (λ given after. ev body (bound locals given variables) after))
     follows_local =
         gives_then (λ vs z. (u : State ℕ) × (z ≡ unmaking lists_keeping u) × Did w base inner (name_kinds c locals) with_it inner_t logic vs u) (Mine w base scope s (form_counted thy whole values))
         (counting limit s (with_fresh (on_lists w threaded base.table.packages limit) ev stobj (Some l) producer variables)) (λ given after. ev body (bound locals given variables) after)
-        (gives_counting (λ vs z. (u : State ℕ) × (z ≡ unmaking lists_keeping u) × Did w base inner (name_kinds c locals) with_it inner_t logic vs u) limit s (with_fresh (on_lists w threaded base.table.packages limit) ev stobj (Some l) producer variables)
-        (unmade (Did w base inner (name_kinds c locals) with_it inner_t logic) (ev producer ((stobj, StobjNamed stobj) ∷ variables) with_it)
-        (did w base threaded limit thy ev el h f c mode inner producer None (name_kinds c locals)
-        (record { suited_world = suited_world; runs = n; accepted = (of_with_local c mode scope formal expected stobj locals producer body accepted).0; formed = formed_producer; suited = suited_producer })
-        ((stobj, StobjNamed stobj) ∷ variables) with_it inner_t ((stobj, made) ∷ values)
-        (record {
-          are = local_variables c scope stobj variables named_object stage.are;
-          stands = stands_new w c scope stobj l s.stobjs t.stobjs stage.stands (new_stobjs_stand.fields (layout_of w stobj));
-          same = (let same : AreSame (one_more_call s) (one_more_call t) = counted_same w s t stage.same in record { symbols = same.symbols; calls = same.calls; outer = same.outer });
-          sound = inner_sound;
-          lists = inner_lists;
-          kin = inner_kin;
-          named = inner_named;
-        }))))
+        produced
         (λ vs z m. subst (λ (y : State ℕ). IfGives (Mine w base scope s (form_counted thy whole values)) (ev body (bound locals vs variables) y)) (sym m.1) (after_producer vs m.0 m.2))

@@ -9,10 +9,10 @@ use Rattle.model_terms.specs.Cores as cores
 use Rattle.model_terms.specs.Cores.{Core, Cores, Reached, reached}
 use Rattle.model_terms.specs.Worlds.{World, Definition, definition, definition_name}
 use Rattle.model_terms.specs.Classes.{is_stobj_name}
-use Rattle.model_slots.specs.Trees.{Tree, Trees, Child, Operand}
+use Rattle.model_slots.specs.Trees.{Tree, Trees, Child}
 use Rattle.model_slots.specs.Trees as trees
-use Rattle.model_slots.specs.Environments.{Environment, slot_in, all_bound, ordinary_bound}
-use Rattle.model_slots.specs.Resolved.{both, all_three, number_in, index_in, child_of, child_in, children_in, resolved, all_resolved}
+use Rattle.model_slots.specs.Environments.{Environment, all_bound, ordinary_bound}
+use Rattle.model_slots.specs.Resolved.{both, all_three, number_in, child_in, children_in, resolved, all_resolved}
 use Rattle.model_slots.specs.Laws.{SameNames, AllSameNames, AreSame, KeepsNumbers}
 
 -- ---- what stands at the place of a name
@@ -86,8 +86,7 @@ module _ (w added : World) where
   child_later : (env : Environment) (vars : List ℕ) (x : ℕ) (by : Option Reached) → Stays (child_in w env vars x by) (child_in (w ++ added) env vars x by)
   child_later env vars x None = λ c h. h
   child_later env vars x (Some by) =
-      all_stay _ (number_in w by.accessor) (number_in (w ++ added) by.accessor) (index_in env by.index) (index_in env by.index) (slot_in env by.parent) (slot_in env by.parent)
-      (λ n h. number_later w added by.accessor n h) (λ i h. h) (λ p h. h)
+      map_stays _ (number_in w by.accessor) (number_in (w ++ added) by.accessor) (λ n h. number_later w added by.accessor n h)
 
   children_later : (env : Environment) (vars names : List ℕ) (forms : Cores) → Stays (children_in w env vars names forms) (children_in (w ++ added) env vars names forms)
   children_later env vars names cores.none = λ c h. h

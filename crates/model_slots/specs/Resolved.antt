@@ -1,7 +1,8 @@
 -- The tree of a core form in an environment.
 use Rattle.std.specs.Prelude.{ℕ, ◌+◌, List, [], ◌∷◌, map, length, Bool, Option, Some, None, nat_eq, position, option_map}
+use Rattle.std.specs.Option.{option_map_or}
 use Rattle.std.specs.List.{list_any}
-use Rattle.model_objects.specs.Object.{Object}
+use Rattle.model_prims.specs.Kinds.{by_number, nil_of}
 use Rattle.model_terms.specs.Cores as cores
 use Rattle.model_terms.specs.Cores.{Core, Cores, Reached, reached}
 use Rattle.model_terms.specs.Worlds.{World, definition_name}
@@ -25,31 +26,36 @@ all_three f (Some a) (Some b) (Some c) = Some (f a b c)
 abbrev pub number_in : World → ℕ → Option ℕ
 number_in w f = position (nat_eq f) (map definition_name w)
 
+-- ---- variables
+
+-- the variable of a name; checked evaluation reads one that is not there as NIL
+abbrev pub variable_at : Environment → ℕ → Operand
+variable_at env x = option_map_or Slot (slot_in env x) (Const (nil_of by_number))
+
 -- ---- children
 
--- a variable or a constant
-abbrev pub operand_in : Environment → Core → Option Operand
-operand_in env (cores.Var x) = option_map Slot (slot_in env x)
-operand_in env (cores.Const o) = Some (Const o)
-operand_in env (cores.If a b c) = None
-operand_in env (cores.Let names bound body) = None
-operand_in env (cores.Mv parts) = None
-operand_in env (cores.MvLet names bound body) = None
-operand_in env (cores.StobjLet names bound vars producer consumer) = None
-operand_in env (cores.WithLocal stobj names producer body) = None
-operand_in env (cores.MustBeEqual logic exec) = None
-operand_in env (cores.Call f actuals) = None
+-- a variable or a constant; what is neither is read as NIL
+abbrev pub operand_in : Environment → Core → Operand
+operand_in env (cores.Var x) = variable_at env x
+operand_in env (cores.Const o) = Const o
+operand_in env (cores.If a b c) = Const (nil_of by_number)
+operand_in env (cores.Let names bound body) = Const (nil_of by_number)
+operand_in env (cores.Mv parts) = Const (nil_of by_number)
+operand_in env (cores.MvLet names bound body) = Const (nil_of by_number)
+operand_in env (cores.StobjLet names bound vars producer consumer) = Const (nil_of by_number)
+operand_in env (cores.WithLocal stobj names producer body) = Const (nil_of by_number)
+operand_in env (cores.MustBeEqual logic exec) = Const (nil_of by_number)
+operand_in env (cores.Call f actuals) = Const (nil_of by_number)
 
-abbrev pub index_in : Environment → Option Core → Option (Option Operand)
-index_in env None = Some None
-index_in env (Some form) = option_map Some (operand_in env form)
+abbrev pub index_in : Environment → Option Core → Option Operand
+index_in env form = option_map (operand_in env) form
 
-abbrev pub child_of : ℕ → Bool → ℕ → Option Operand → ℕ → Child
-child_of x returns accessor index parent = record { name = x; accessor = accessor; index = index; parent = parent; returns = returns }
+abbrev pub child_of : ℕ → Bool → Option Operand → Operand → ℕ → Child
+child_of x returns index parent accessor = record { name = x; accessor = accessor; index = index; parent = parent; returns = returns }
 
 abbrev pub child_in : World → Environment → List ℕ → ℕ → Option Reached → Option Child
 child_in w env vars x None = None
-child_in w env vars x (Some by) = all_three (child_of x (list_any (nat_eq x) vars)) (number_in w by.accessor) (index_in env by.index) (slot_in env by.parent)
+child_in w env vars x (Some by) = option_map (child_of x (list_any (nat_eq x) vars) (index_in env by.index) (variable_at env by.parent)) (number_in w by.accessor)
 
 -- the children that these names are bound to, as far as both reach
 abbrev pub children_in : World → Environment → List ℕ → List ℕ → Cores → Option (List Child)
@@ -60,10 +66,10 @@ children_in w env vars (x ∷ xs) (cores.more form forms) = both (λ c cs. c ∷
 -- ---- forms
 
 unfoldable mutual
-  -- the tree of a form whose own values begin at this slot; none where a name has no variable, a function does not stand, or
-  -- what is bound to a child is no call that reaches one
+  -- the tree of a form whose own values begin at this slot; none where a function does not stand, or what is bound to a child is
+  -- no call that reaches one
   pub resolved : World → Environment → ℕ → Core → Option Tree
-  resolved w env s (cores.Var x) = option_map (λ i. trees.Leaf (Slot i)) (slot_in env x)
+  resolved w env s (cores.Var x) = Some (trees.Leaf (variable_at env x))
   resolved w env s (cores.Const o) = Some (trees.Leaf (Const o))
   resolved w env s (cores.If a b c) = all_three (trees.If s) (resolved w env s a) (resolved w env s b) (resolved w env s c)
   resolved w env s (cores.Let names bound body) =

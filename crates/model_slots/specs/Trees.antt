@@ -12,7 +12,7 @@ pub record Child : Type 0 where
   pub name : ℕ
   pub accessor : ℕ  -- the number of its definition
   pub index : Option Operand  -- its place in an array of children
-  pub parent : ℕ  -- the slot of the variable of the parent
+  pub parent : Operand  -- the variable of the parent
   pub returns : Bool  -- whether the producer gives it back
 
 -- the number that stands first is the slot at which the form's own values begin: part k of a form has its value in that slot and

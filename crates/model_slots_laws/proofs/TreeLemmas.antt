@@ -1,17 +1,14 @@
 -- Which forms have trees.
-use Rattle.std.specs.Prelude.{◌≡◌, ℕ, ◌+◌, List, [], ◌∷◌, map, length, Bool, true, false, ◌&&◌, ◌||◌, Option, Some, None, nat_eq, option_map, is_some, refl, cond}
-use Rattle.std.specs.List.{find, position_from, list_any}
+use Rattle.std.specs.Prelude.{◌≡◌, ℕ, ◌+◌, List, [], ◌∷◌, map, length, Bool, true, false, ◌&&◌, Option, Some, None, nat_eq, option_map, is_some, refl, cond}
+use Rattle.std.specs.List.{find, position_from}
 use Rattle.std.proofs.Common.{ap, ◌∙◌}
 use Rattle.std.proofs.lemmas.Iterator.Adapters.{position_from-zero}
 use Rattle.model_terms.specs.Cores as cores
 use Rattle.model_terms.specs.Cores.{Core, Cores, Reached, reached}
 use Rattle.model_terms.specs.Worlds.{World, definition_name}
-use Rattle.model_terms.specs.Classes.{has}
-use Rattle.model_slots.specs.Trees as trees
-use Rattle.model_slots.specs.Environments.{Environment, names_in, slot_in, all_bound, ordinary_bound}
-use Rattle.model_slots.specs.Resolved.{both, all_three, number_in, operand_in, index_in, child_of, child_in, children_in, resolved, all_resolved}
-use Rattle.model_slots.proofs.SlotLemmas.{are_bound}
-use Rattle.model_slots_laws.specs.Standing.{stands, is_operand, is_index, is_reached, all_reached, has_tree, all_have_trees}
+use Rattle.model_slots.specs.Environments.{Environment, all_bound, ordinary_bound}
+use Rattle.model_slots.specs.Resolved.{both, all_three, number_in, child_in, children_in, resolved, all_resolved}
+use Rattle.model_slots_laws.specs.Standing.{stands, is_reached, all_reached, has_tree, all_have_trees}
 use Rattle.model_slots_laws.specs.Laws.{HaveTrees}
 
 -- ---- options
@@ -34,15 +31,7 @@ some_map f (Some a) = refl
 alike : (a b c d : Bool) → a ≡ c → b ≡ d → a && b ≡ c && d
 alike a b c d p q = rw (p, q) refl
 
--- ---- names and functions
-
-some_slot : (env : Environment) (x : ℕ) → is_some (slot_in env x) ≡ has (names_in env) x
-some_slot [] x = refl
-some_slot (e ∷ es) x = go (nat_eq x e.0) (some_slot es x)
-  where
-    go : (b : Bool) → is_some (slot_in es x) ≡ has (names_in es) x → is_some (cond b (Some e.1) (slot_in es x)) ≡ b || has (names_in es) x
-    go true h = refl
-    go false h = h
+-- ---- functions
 
 some_from : (f i : ℕ) (w : World) → is_some (position_from (nat_eq f) i (map definition_name w)) ≡ is_some (find (λ d. nat_eq f (definition_name d)) w)
 some_from f i [] = refl
@@ -59,29 +48,11 @@ some_number w f = ap is_some (position_from-zero (nat_eq f) (map definition_name
 -- ---- children
 
 module _ (w : World) (env : Environment) where
-  some_operand : (f : Core) → is_some (operand_in env f) ≡ is_operand (names_in env) f
-  some_operand (cores.Var x) = some_map trees.Slot (slot_in env x) ∙ some_slot env x
-  some_operand (cores.Const o) = refl
-  some_operand (cores.If a b c) = refl
-  some_operand (cores.Let names bound body) = refl
-  some_operand (cores.Mv parts) = refl
-  some_operand (cores.MvLet names bound body) = refl
-  some_operand (cores.StobjLet names bound vars producer consumer) = refl
-  some_operand (cores.WithLocal stobj names producer body) = refl
-  some_operand (cores.MustBeEqual logic exec) = refl
-  some_operand (cores.Call f actuals) = refl
-
-  some_index : (o : Option Core) → is_some (index_in env o) ≡ is_index (names_in env) o
-  some_index None = refl
-  some_index (Some f) = some_map Some (operand_in env f) ∙ some_operand f
-
-  some_child : (vars : List ℕ) (x : ℕ) (by : Option Reached) → is_some (child_in w env vars x by) ≡ is_reached w (names_in env) by
+  some_child : (vars : List ℕ) (x : ℕ) (by : Option Reached) → is_some (child_in w env vars x by) ≡ is_reached w by
   some_child vars x None = refl
-  some_child vars x (Some by) =
-      some_three (child_of x (list_any (nat_eq x) vars)) (number_in w by.accessor) (index_in env by.index) (slot_in env by.parent)
-      ∙ alike _ _ _ _ (some_number w by.accessor) (alike _ _ _ _ (some_index by.index) (some_slot env by.parent))
+  some_child vars x (Some by) = some_map _ (number_in w by.accessor) ∙ some_number w by.accessor
 
-  some_children : (vars xs : List ℕ) (fs : Cores) → is_some (children_in w env vars xs fs) ≡ all_reached w (names_in env) xs fs
+  some_children : (vars xs : List ℕ) (fs : Cores) → is_some (children_in w env vars xs fs) ≡ all_reached w xs fs
   some_children vars xs cores.none = refl
   some_children vars [] (cores.more f fs) = refl
   some_children vars (x ∷ xs) (cores.more f fs) =
@@ -92,28 +63,24 @@ module _ (w : World) (env : Environment) where
 mutual
   unfolding resolved has_tree
 
-  some_tree : (w : World) (env : Environment) (s : ℕ) (f : Core) → is_some (resolved w env s f) ≡ has_tree w (names_in env) f
-  some_tree w env s (cores.Var x) = some_map _ (slot_in env x) ∙ some_slot env x
+  some_tree : (w : World) (env : Environment) (s : ℕ) (f : Core) → is_some (resolved w env s f) ≡ has_tree w f
+  some_tree w env s (cores.Var x) = refl
   some_tree w env s (cores.Const o) = refl
   some_tree w env s (cores.If a b c) = some_three _ _ _ _ ∙ alike _ _ _ _ (some_tree w env s a) (alike _ _ _ _ (some_tree w env s b) (some_tree w env s c))
   some_tree w env s (cores.Let names bound body) =
-      some_both _ _ _ ∙ alike _ _ _ _ (some_trees w env s bound)
-      (some_tree w (ordinary_bound w s names env) (s + length names) body ∙ ap (λ ns. has_tree w ns body) (are_bound.ordinary_named w s env names))
+      some_both _ _ _ ∙ alike _ _ _ _ (some_trees w env s bound) (some_tree w (ordinary_bound w s names env) (s + length names) body)
   some_tree w env s (cores.Mv parts) = some_map _ _ ∙ some_trees w env s parts
   some_tree w env s (cores.MvLet names bound body) =
-      some_both _ _ _ ∙ alike _ _ _ _ (some_tree w env s bound)
-      (some_tree w (ordinary_bound w s names env) (s + length names) body ∙ ap (λ ns. has_tree w ns body) (are_bound.ordinary_named w s env names))
+      some_both _ _ _ ∙ alike _ _ _ _ (some_tree w env s bound) (some_tree w (ordinary_bound w s names env) (s + length names) body)
   some_tree w env s (cores.StobjLet names bound vars producer consumer) =
       some_three _ _ _ _ ∙ alike _ _ _ _ (some_children w env vars names bound)
-      (alike _ _ _ _ (some_tree w (all_bound s names env) (s + length names) producer ∙ ap (λ ns. has_tree w ns producer) (are_bound.all_named s env names))
-      (some_tree w (ordinary_bound w s vars env) (s + length vars) consumer ∙ ap (λ ns. has_tree w ns consumer) (are_bound.ordinary_named w s env vars)))
+      (alike _ _ _ _ (some_tree w (all_bound s names env) (s + length names) producer) (some_tree w (ordinary_bound w s vars env) (s + length vars) consumer))
   some_tree w env s (cores.WithLocal stobj names producer body) =
-      some_both _ _ _ ∙ alike _ _ _ _ (some_tree w (all_bound s (stobj ∷ []) env) (s + 1) producer)
-      (some_tree w (ordinary_bound w s names env) (s + length names) body ∙ ap (λ ns. has_tree w ns body) (are_bound.ordinary_named w s env names))
+      some_both _ _ _ ∙ alike _ _ _ _ (some_tree w (all_bound s (stobj ∷ []) env) (s + 1) producer) (some_tree w (ordinary_bound w s names env) (s + length names) body)
   some_tree w env s (cores.MustBeEqual logic exec) = some_map _ _ ∙ some_tree w env s logic
   some_tree w env s (cores.Call f actuals) = some_both _ _ _ ∙ alike _ _ _ _ (some_number w f) (some_trees w env s actuals)
 
-  some_trees : (w : World) (env : Environment) (s : ℕ) (fs : Cores) → is_some (all_resolved w env s fs) ≡ all_have_trees w (names_in env) fs
+  some_trees : (w : World) (env : Environment) (s : ℕ) (fs : Cores) → is_some (all_resolved w env s fs) ≡ all_have_trees w fs
   some_trees w env s cores.none = refl
   some_trees w env s (cores.more f fs) = some_both _ _ _ ∙ alike _ _ _ _ (some_tree w env s f) (some_trees w env (s + 1) fs)
 

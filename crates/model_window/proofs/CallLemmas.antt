@@ -20,7 +20,7 @@ use Rattle.model_window.specs.Windows.{Memory, window, all_written, stobj_names,
 use Rattle.model_window.specs.Frames.{Code}
 use Rattle.model_window.specs.Frames as windows
 use Rattle.model_window.specs.Turns.{called_name, stop_from, done, counted, call_of_abstract, call_by_definition, call, call_exec_by, call_exec}
-use Rattle.model_window.specs.Stands.{Origins, IsEarlier, HoldsTrees, Worlds, InScope, AreActuals, AreFormals, export_at, ExportStands, NoExport, ExportRuns, FramesStand, Inside, ControlStands, TurnStands}
+use Rattle.model_window.specs.Stands.{Origins, IsEarlier, HoldsTrees, SeesNil, Worlds, InScope, AreActuals, AreFormals, export_at, ExportStands, NoExport, ExportRuns, FramesStand, Inside, ControlStands, TurnStands}
 use Rattle.model_window.specs.Stands as stands
 use Rattle.model_window.specs.Following.{worlds_of}
 use Rattle.model_window.specs.Fitting.{FitFormals}
@@ -34,7 +34,7 @@ pub data ExportHas {S B : Type 0} (values : List (Shown S)) : Option (windows.Ex
   SomeHas : (x : windows.Export B) (y : machine.Export S B) → x.count ≡ length values → x.names ≡ stobj_names values
       → y ≡ record { name = x.name; actuals = values; begun = x.begun; outer = x.outer } → ExportHas values (Some x) (Some y)
 
-module _ {S O B : Type 0} {keeping : Keeping S O B} (r : RulesOf keeping) (origins : Origins) (code : Code) (h : HoldsTrees r.world origins code) where
+module _ {S O B : Type 0} {keeping : Keeping S O B} (r : RulesOf keeping) (origins : Origins) (code : Code) (h : HoldsTrees r.world origins code) (sees : SeesNil r) where
   pub goes : (ws : List World) (z : World) (room inner : ℕ) (frames : List (windows.Frame S B)) (frames' : List (machine.Frame S B)) (memory : Memory S) (control : windows.Control S) (control' : machine.Control S) (state : StateOf O)
       → FramesStand r.world memory ws inner frames frames' → ControlStands r.world z memory inner control control'
       → TurnStands r.world (record { frames = ws; control = z }) (windows.Going (record { room = room; frames = frames; memory = memory; control = control; state = state })) (machine.Going (record { room = room; frames = frames'; control = control'; state = state }))

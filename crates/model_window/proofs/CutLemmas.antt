@@ -78,10 +78,10 @@ module _ {S O B : Type 0} {keeping : Keeping S O B} (r : RulesOf keeping) (code 
 
 cut_alike : {S O B : Type 0} (keeping : Keeping S O B) → cutting.IsCutNow keeping → IsCutNow keeping
 cut_alike keeping known = record {
-  cut = λ r origins code h count write c depth s env form tree memory state earlier l e n m below fit leads.
+  cut = λ r origins code h sees count write c depth s env form tree memory state earlier l e n m below fit leads.
       let found : (m' : machine.Machine _ _ _) × cutting.Leads r n (machine.Going (machines.begun_on depth form (variables_in memory env) state)) m' × StandsInSome r.world m m' =
-      leads_alike r origins code h n (begun_in c) (windows.Going (begun_on depth tree memory state)) (machine.Going (machines.begun_on depth form (variables_in memory env) state)) m
-      (begins_standing r origins code h c depth s env form tree memory state earlier l e) fit leads in
+      leads_alike r origins code h sees n (begun_in c) (windows.Going (begun_on depth tree memory state)) (machine.Going (machines.begun_on depth form (variables_in memory env) state)) m
+      (begins_standing r origins code h sees c depth s env form tree memory state earlier l e) fit leads in
       standing_now r code depth form (variables_in memory env) state m found.0 found.2 (known.cut r count write depth form (variables_in memory env) state n found.0 below found.1);
 }
 

@@ -15,7 +15,7 @@ use Rattle.model_slots.specs.Resolved.{resolved}
 use Rattle.model_window.specs.Windows.{Memory, actuals_at}
 use Rattle.model_window.specs.Frames.{Code, Step, Test, Parts, Several, Calling, Guarding, Running, Allowing, Exporting, Borrowing, Producing, Putting, Local, Last, Frame, Machine, Going}
 use Rattle.model_window.specs.Turns.{loans_of, out_of, closed_state, begun_on}
-use Rattle.model_window.specs.Stands.{Origins, IsEarlier, HoldsTrees}
+use Rattle.model_window.specs.Stands.{Origins, IsEarlier, HoldsTrees, SeesNil}
 use Rattle.model_window.specs.Laws.{begun_in, FitsFor, Leads}
 
 module _ {S O B : Type 0} {keeping : Keeping S O B} (r : RulesOf keeping) (code : Code) where
@@ -62,7 +62,7 @@ module _ {S O B : Type 0} {keeping : Keeping S O B} (r : RulesOf keeping) (code 
 -- a machine that was begun on the tree of a form: evaluation of the form with no more calls than the machine has counted ends or
 -- stops in just the state that the machine has, its frames closed
 pub record IsCutNow {S O B : Type 0} (keeping : Keeping S O B) : Type 0 where
-  pub cut : (r : RulesOf keeping) (origins : Origins) (code : Code) → HoldsTrees r.world origins code → PrimitivesCountNone r → PrimitivesWriteNone r
+  pub cut : (r : RulesOf keeping) (origins : Origins) (code : Code) → HoldsTrees r.world origins code → SeesNil r → PrimitivesCountNone r → PrimitivesWriteNone r
       → (c : World) (depth s : ℕ) (env : Environment) (form : Core) (tree : Tree) (memory : Memory S) (state : StateOf O) → IsEarlier c r.world → LiesBelow s env → resolved c env s form ≡ Some tree
       → (n : ℕ) (m : Machine S O B) → state.calls ≤ r.limit
       → FitsFor r origins n (begun_in c) (machine.Going (machines.begun_on depth form (variables_in memory env) state))

@@ -1,12 +1,14 @@
 -- When a machine over trees stands for a machine over forms.
 use Rattle.std.specs.Prelude.{true, ◌≡◌, ℕ, ◌+◌, ◌≤◌, List, [], ◌∷◌, ◌++◌, map, length, Option, Some, None, nat_eq, slice_get}
 use Rattle.std.specs.List.{list_any}
+use Rattle.model_prims.specs.Kinds.{by_number, nil_of}
 use Rattle.model_terms.specs.Cores.{Core, Cores}
 use Rattle.model_terms.specs.Worlds.{World, Function, FunctionOfAbstract, Defined, OfAbstract}
 use Rattle.model_terms.specs.declared.role.AbstractRole.TheVariants as abstract_role
 use Rattle.model_eval.specs.Outcomes.{Shown, Stop, Origin}
-use Rattle.model_eval.specs.Keeping.{Loan}
+use Rattle.model_eval.specs.Keeping.{Loan, Keeping}
 use Rattle.model_eval.specs.Variables.{Variables}
+use Rattle.model_eval.specs.Evaluated.{RulesOf}
 use Rattle.model_machine.specs.Frames as machine
 use Rattle.model_machine.specs.Frames.{Begun}
 use Rattle.model_slots.specs.Trees.{Tree, Trees, Child}
@@ -23,6 +25,10 @@ use Rattle.model_window.specs.Frames as windows
 pub record Origins : Type 0 where
   pub guard : ℕ → World
   pub body : ℕ → World
+
+-- NIL in a form shows as NIL
+pub record SeesNil {S O B : Type 0} {keeping : Keeping S O B} (r : RulesOf keeping) : Type 0 where
+  pub nil : r.see (nil_of by_number) ≡ nil_of r.kind
 
 -- the functions that stand in the first world have the same numbers in the second
 pub record IsEarlier (c w : World) : Type 0 where

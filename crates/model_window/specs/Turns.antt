@@ -179,7 +179,7 @@ module _ {S O B : Type 0} {keeping : Keeping S O B} (r : RulesOf keeping) (code 
   abbrev pub next_child : ℕ → ℕ → List (Frame S B) → Memory S → ℕ → List Child → List (Borrowed S) → Tree → Tree → StateOf O → Turned S O B
   next_child room base frames memory s [] borrowed producer consumer state = lend_all room base frames memory s borrowed producer consumer state
   next_child room base frames memory s (c ∷ cs) borrowed producer consumer state =
-      borrow room base frames memory (λ loan. Borrowing s cs (borrowed ++ record { loan = loan; returns = c.returns } ∷ []) producer consumer) c (window memory base c.parent) state
+      borrow room base frames memory (λ loan. Borrowing s cs (borrowed ++ record { loan = loan; returns = c.returns } ∷ []) producer consumer) c (operand_value memory base c.parent) state
 
   -- the next child that is put back, or the consumer
   abbrev pub put_next : ℕ → ℕ → List (Frame S B) → Memory S → ℕ → List (Borrowed S) → List (Borrowed S) → Tree → StateOf O → Turned S O B

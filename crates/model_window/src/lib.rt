@@ -6,13 +6,20 @@ ghost use Rattle.model_eval.specs.ListsKeeping.{lists_keeping};
 ghost use Rattle.model_eval.specs.PlacesKeeping.{places_keeping};
 ghost use Rattle.model_window.specs.Closing.{IsCutNow};
 ghost use Rattle.model_window.specs.Tables.{TablesHold, NamesTell};
-ghost use Rattle.model_window.specs.Laws.{TakesTurns, BeginsAlike, EndsAlike, LeadsAlike, EvaluatesTrees};
+ghost use Rattle.model_window.specs.Laws.{TakesTurns, ChecksSeeNil, BeginsAlike, EndsAlike, LeadsAlike, EvaluatesTrees};
 
 /// A machine over trees takes the turns of the machine over forms that it stands for.
 #[tactic(auto, using(crate::proofs::TurnLemmas::takes_turns))]
 pub fn machines_take_turns()
     ensures lists { TakesTurns (lists_keeping {S = ℕ}) }
     ensures places { TakesTurns (places_keeping {S = ℕ}) }
+{}
+
+/// The rules of checked evaluation meet the condition on NIL.
+#[tactic(auto, using(crate::proofs::TurnLemmas::checks_see_nil))]
+pub fn checked_rules_see_nil()
+    ensures lists { ChecksSeeNil lists_keeping }
+    ensures places { ChecksSeeNil places_keeping }
 {}
 
 /// Machines that are begun on a tree and on its form stand for one another.

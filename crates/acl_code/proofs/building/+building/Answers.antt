@@ -11,7 +11,11 @@ use Rattle.acl_code.proofs.building.+building.Goals as goal
 
 pub build_in-returns-in_ok-t-in-Var-clause-built : goal.build_in-returns-in_ok-t-in-Var-clause-built
 build_in-returns-in_ok-t-in-Var-clause-built t c =
-    var_arm c.args.heap.now (seen_world c.args.heap.now c.args.world.now) c.args.at c.args.environment.now c.args.core.now _ _ _ _ c.in-Var.is c.find-slot.ensures c.in_ok-t-in-Var.ensures.within c.in_ok-t-in-Var.ensures.is
+    var_arm c.args.heap.now (seen_world c.args.heap.now c.args.world.now) c.args.at c.args.environment.now c.args.core.now _ _ _ _ c.in-Var.is c.variable_operand-variable.ensures.is c.in_ok-t-in-Var.ensures.within c.in_ok-t-in-Var.ensures.is
+
+pub build_in-finish_var-requires-clause-word : goal.build_in-finish_var-requires-clause-word
+build_in-finish_var-requires-clause-word t c =
+    c.variable_operand-variable.ensures.word
 
 pub build_in-finish_const-requires-clause-word : goal.build_in-finish_const-requires-clause-word
 build_in-finish_const-requires-clause-word t c =

@@ -1,4 +1,4 @@
-use Rattle.acl_keep.proofs.PutLemmas.{stepped}
+use Rattle.acl_keep.proofs.PutLemmas.{stepped, whole_index}
 use Rattle.acl_keep.proofs.putting.put_all.Goals as goal
 
 pub loop-loan-preserved : goal.loop-loan-preserved
@@ -8,3 +8,6 @@ loop-loan-preserved g c = record {
       c.in_ok-put.ensures.ok (c.loop-loan.invariant.puts k ls keeps);
   sound = λ h w n s. c.put.ensures.sound h w n (c.loop-loan.invariant.sound h w n s);
 }
+
+pub put-requires : goal.put-requires
+put-requires g c = record { whole = whole_index c.args.syms.now c.args.heap.now c.args.loans.now c.loop-loan.loan-index _ c.loop-loan-test.true c.requires.whole }

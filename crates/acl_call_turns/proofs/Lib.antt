@@ -1,0 +1,6 @@
+pub mod WorldLemmas
+pub mod FormLemmas
+pub mod EnterLemmas
+pub mod LeaveLemmas
+pub mod CloseLemmas
+pub mod SoundLemmas

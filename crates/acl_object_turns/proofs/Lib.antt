@@ -1,0 +1,10 @@
+pub mod FrameLemmas
+pub mod WholeLemmas
+pub mod LocalLemmas
+pub mod CallLemmas
+pub mod ReadingLemmas
+pub mod BorrowLemmas
+pub mod TwinLemmas
+pub mod LendLemmas
+pub mod PutLemmas
+pub mod ChildWholeLemmas

@@ -1,0 +1,8 @@
+pub mod KeyLemmas
+pub mod FieldLemmas
+pub mod WorldLemmas
+pub mod ListLemmas
+pub mod ReadingLemmas
+pub mod NestingLemmas
+pub mod ShapeLemmas
+pub mod NameLemmas

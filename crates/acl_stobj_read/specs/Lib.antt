@@ -1,0 +1,5 @@
+pub mod Keys
+pub mod Written
+pub mod Lists
+pub mod Shapes
+pub mod Refusals
