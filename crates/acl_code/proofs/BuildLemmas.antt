@@ -24,6 +24,7 @@ use Rattle.acl_code.specs.declared.term.Child.{Child}
 use Rattle.acl_code.specs.declared.term.Operand.{Operand}
 use Rattle.acl_code.specs.declared.term.Term.{Term}
 use Rattle.acl_code.specs.Environments.{seen_environment}
+use Rattle.acl_code.specs.Constants.{ConstantsAreKnown, FormsAreKnown}
 use Rattle.acl_code.specs.Sizes.{Fits}
 use Rattle.acl_code.specs.Tables.{tree_at, seen_operand, seen_child, seen_term, seen_parts, AllIn, AllWithin, Within, Grown, TermsLie, IsBuilt, AreBuilt}
 use Rattle.acl_code.proofs.TableLemmas.{tree_later, grown_same, grown_then}
@@ -316,6 +317,7 @@ pub record BuiltSoFar (h : Objects) (w : World) (e now_e : List Binding) (at : �
   pub environment : now_e ≡ e
   pub grows : Grown start now
   pub words : TermsLie h now
+  pub known : (n : ℕ) → 1 < n → FormsAreKnown n all → ConstantsAreKnown n h start → ConstantsAreKnown n h now
   pub within : AllIn now found
   pub are : all_resolved w (seen_environment e) at all ≡ parts_then (map (tree_at h now) found) (all_resolved w (seen_environment e) (at + i) left)
 
@@ -330,6 +332,7 @@ parts_start h w e at start all l =
       environment = refl;
       grows = grown_same start;
       words = l;
+      known = λ n b k c. c;
       within = tt;
       are = ap (λ k. all_resolved w (seen_environment e) k all) z ∙ then_nothing (all_resolved w (seen_environment e) (at + 0) all);
     }
@@ -348,14 +351,16 @@ module _ (h : Objects) (w : World) (e now_e : List Binding) (at : ℕ) (start no
   built_here new o k ek b = b.is ∙ (ap (λ m. resolved w (seen_environment now_e) m f) ek ∙ ap (λ n. resolved w (seen_environment n) (at + i) f) s.environment)
 
   pub parts_step : (next_e : List Binding) (new : List Term) (o : Option TermId) (t : TermId) (k : ℕ) (more_found : List TermId) → k ≡ at + i → o ≡ Some t → next_e ≡ now_e → Grown now new → TermsLie h new
+      → ((n : ℕ) → 1 < n → FormsAreKnown n all → ConstantsAreKnown n h now → ConstantsAreKnown n h new)
       → IsBuilt h new o (resolved w (seen_environment now_e) k f) → more_found ≡ found ++ t ∷ [] → BuiltSoFar h w e next_e at start new all rest (i + 1) more_found
-  parts_step next_e new o t k more_found ek eo ee g l b em =
+  parts_step next_e new o t k more_found ek eo ee g l known b em =
       let lies : t.0 < length new = subst (Within new) eo b.within in
       let is : Some (tree_at h new t) ≡ resolved w (seen_environment e) (at + i) f = ap (seen_term h new) (sym eo) ∙ built_here new o k ek b in
       let r : BuiltSoFar h w e next_e at start new all rest (i + 1) (found ++ t ∷ []) = record {
         environment = ee ∙ s.environment;
         grows = grown_then start now new s.grows g;
         words = l;
+        known = λ n m j c. known n m j (s.known n m j c);
         within = in_push new found t (in_later now new found g s.within) lies;
         are = on ∙ (ap (λ r. parts_then (map (tree_at h now) found) (both more r (all_resolved w (seen_environment e) (at + (i + 1)) rest))) (sym is)
             ∙ (then_one (map (tree_at h now) found) (tree_at h new t) (all_resolved w (seen_environment e) (at + (i + 1)) rest)

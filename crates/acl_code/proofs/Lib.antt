@@ -1,5 +1,6 @@
 pub mod EnvironmentLemmas
 pub mod TableLemmas
+pub mod ConstantLemmas
 pub mod PartLemmas
 pub mod ChildLemmas
 pub mod SizeLemmas

@@ -10,6 +10,7 @@ use Rattle.model_slots.specs.Resolved.{both}
 use Rattle.acl_code.specs.declared.term.Parts.{Parts}
 use Rattle.acl_code.specs.declared.term.Term.{Term}
 use Rattle.acl_code.specs.declared.term.Term.TheVariants as term
+use Rattle.acl_code.specs.Constants.{ConstantsAreKnown}
 use Rattle.acl_code.specs.Tables.{trees_in, tree_over, forest, tree_at, AllIn, Grown, Within, TermsLie, seen_term, seen_parts}
 use Rattle.acl_code.proofs.TableLemmas.{tree_later, forest_length, grown_then}
 
@@ -17,13 +18,15 @@ use Rattle.acl_code.proofs.TableLemmas.{tree_later, forest_length, grown_then}
 abbrev pub PartsSoFar : Objects → List Term → List Term → List TermId → ℕ → Type 0
 PartsSoFar h start now ids i =
     (forest h now ++ map (tree_at h start) (drop i ids) ≡ forest h start ++ map (tree_at h start) ids) × AllIn start (drop i ids) × Grown start now × TermsLie h now
+    × ((n : ℕ) → ConstantsAreKnown n h start → ConstantsAreKnown n h now)
 
 pub left_at : {X : Type 0} (xs : List X) (i : ℕ) (d : X) → i < length xs → drop i xs ≡ get_or xs i d ∷ drop (i + 1) xs
 left_at xs i d l = rw (add-one i, drop-cons xs i d l) refl
 
 pub parts_step : (h : Objects) (start now new : List Term) (ids : List TermId) (i : ℕ) (d : TermId) → i < length ids → PartsSoFar h start now ids i
-    → forest h new ≡ forest h now ++ tree_at h now (get_or ids i d) ∷ [] → Grown now new → TermsLie h new → PartsSoFar h start new ids (i + 1)
-parts_step h start now new ids i d l s e g m =
+    → forest h new ≡ forest h now ++ tree_at h now (get_or ids i d) ∷ [] → Grown now new → TermsLie h new
+    → ((n : ℕ) → ConstantsAreKnown n h now → ConstantsAreKnown n h new) → PartsSoFar h start new ids (i + 1)
+parts_step h start now new ids i d l s e g m k =
     let at : drop i ids ≡ get_or ids i d ∷ drop (i + 1) ids = left_at ids i d l in
     let all : AllIn start (get_or ids i d ∷ drop (i + 1) ids) = subst (λ ts. AllIn start ts) at s.1 in (
       ap (λ ts. ts ++ map (tree_at h start) (drop (i + 1) ids)) e
@@ -33,6 +36,7 @@ parts_step h start now new ids i d l s e g m =
       all.1,
       grown_then start now new s.2 g,
       m,
+      λ n c. k n (s.4 n c),
     )
 
 range_all : {X : Type 0} (xs ys : List X) (m n : ℕ) → m ≡ length xs → n ≡ length ys → take n (drop m (xs ++ ys)) ≡ ys

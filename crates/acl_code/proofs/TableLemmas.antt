@@ -32,7 +32,7 @@ table_push ts t i s = record {
   ];
 }
 
-get_taken : {X : Type 0} (n : ℕ) (xs : List X) (i : ℕ) (x : X) → slice_get (take n xs) i ≡ Some x → slice_get xs i ≡ Some x
+pub get_taken : {X : Type 0} (n : ℕ) (xs : List X) (i : ℕ) (x : X) → slice_get (take n xs) i ≡ Some x → slice_get xs i ≡ Some x
 get_taken zero xs i x h = cc
 get_taken (suc n) [] i x h = cc
 get_taken (suc n) (y ∷ xs) zero x h = h
@@ -209,7 +209,7 @@ lies_put h old new t e l m = rw e (record { all = omega (arith, l.all, m, most_p
 pub lies_none : (h : Objects) (old new : List Term) → new ≡ old → TermsLie h old → TermsLie h new
 lies_none h old new e l = rw e l
 
-reach_at : (ts : List Term) (i : ℕ) (t : Term) → slice_get ts i ≡ Some t → term_reach t ≤ most (map term_reach ts)
+pub reach_at : (ts : List Term) (i : ℕ) (t : Term) → slice_get ts i ≡ Some t → term_reach t ≤ most (map term_reach ts)
 reach_at [] i t e = cc
 reach_at (u ∷ ts) zero t e = let s : u ≡ t = cc in subst (λ v. term_reach v ≤ max (term_reach u) (most (map term_reach ts))) s (omega arith)
 reach_at (u ∷ ts) (suc i) t e = let r = reach_at ts i t e in omega (arith, r)

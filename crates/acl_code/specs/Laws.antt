@@ -1,5 +1,5 @@
 -- What is said of tables, as laws.
-use Rattle.std.specs.Prelude.{◌≡◌, ℕ, ◌*◌, ◌^◌, ◌<◌, ◌≤◌, List, length, take, Some, slice_get}
+use Rattle.std.specs.Prelude.{◌≡◌, ℕ, ◌*◌, ◌^◌, ◌<◌, ◌≤◌, List, [], ◌∷◌, ◌++◌, length, take, Some, slice_get}
 use Rattle.acl_base.specs.declared.TermId.{TermId}
 use Rattle.acl_heap.specs.Objects.{Objects, Extends}
 use Rattle.acl_code.specs.declared.term.Term.{Term}
@@ -7,6 +7,7 @@ use Rattle.model_terms.specs.Cores as cores
 use Rattle.acl_terms.specs.Depths.{depth_of}
 use Rattle.acl_terms.specs.declared.form.Core.{Core}
 use Rattle.acl_terms.specs.Forms.{seen_core, CoreLies}
+use Rattle.acl_code.specs.Constants.{TermHas, StandsKnown, TermIsKnown, ConstantsAreKnown}
 use Rattle.acl_code.specs.Sizes.{slots_of, longest_of, Fits}
 use Rattle.acl_code.specs.Tables.{tree_at, tree_over, forest, IsTable, Grown, TermsLie}
 
@@ -21,6 +22,16 @@ pub record HeapsGrow : Type 0 where
   pub trees : (h h' : Objects) (ts : List Term) → Extends h h' → TermsLie h ts → forest h' ts ≡ forest h ts
   pub words : (h h' : Objects) (ts : List Term) → Extends h h' → TermsLie h ts → TermsLie h' ts
   pub cut : (h : Objects) (n : ℕ) (ts : List Term) → TermsLie h ts → TermsLie h (take n ts)
+
+-- the constants of a table stay known as it grows or is cut, as such a heap grows, and among more symbols
+pub record ConstantsStayKnown : Type 0 where
+  pub none : (n : ℕ) (h : Objects) → ConstantsAreKnown n h []
+  pub put : (n : ℕ) (h : Objects) (ts : List Term) (t : Term) → TermIsKnown n h t → ConstantsAreKnown n h ts → ConstantsAreKnown n h (ts ++ t ∷ [])
+  pub cut : (n : ℕ) (h : Objects) (k : ℕ) (ts : List Term) → ConstantsAreKnown n h ts → ConstantsAreKnown n h (take k ts)
+  pub heap : (n : ℕ) (h h' : Objects) (ts : List Term) → Extends h h' → TermsLie h ts → ConstantsAreKnown n h ts → ConstantsAreKnown n h' ts
+  pub symbols : (m n : ℕ) (h : Objects) (ts : List Term) → m ≤ n → TermsLie h ts → ConstantsAreKnown m h ts → ConstantsAreKnown n h ts
+  -- each of them lies in the heap and is known
+  pub words : (n : ℕ) (h : Objects) (ts : List Term) → TermsLie h ts → ConstantsAreKnown n h ts → (i : ℕ) (x : Term) → slice_get ts i ≡ Some x → TermHas (StandsKnown n h) x
 
 -- a form with lists of at most 2 ^ 32 names or parts takes at most so many slots a level, so that its term can be made
 pub record AreFew : Type 0 where

@@ -1,4 +1,5 @@
 pub mod Children
+pub mod Constants
 pub mod Environments
 pub mod Laws
 pub mod Sizes

@@ -1,12 +1,13 @@
 //! The walk over a form that fills the table.
 
-ghost use Rattle.std.specs.Prelude.{◌≡◌, ◌+◌, length, IfOk, OnOk, OnErr};
+ghost use Rattle.std.specs.Prelude.{◌≡◌, ◌+◌, ◌<◌, ℕ, length, IfOk, OnOk, OnErr};
 ghost use Rattle.model_terms.specs.Cores as cores;
 ghost use Rattle.model_slots.specs.Environments.{all_bound, ordinary_bound, formal_environment};
 ghost use Rattle.model_slots.specs.Resolved.{resolved, all_resolved};
 ghost use Rattle.acl_terms.specs.Forms.{numbers, seen_core, seen_cores, seen_bound};
 ghost use Rattle.acl_worlds.specs.Contents.{seen_world};
 ghost use Rattle.acl_code.specs.Environments.{seen_environment};
+ghost use Rattle.acl_code.specs.Constants.{ConstantsAreKnown, FormIsKnown, FormsAreKnown};
 ghost use Rattle.acl_code.specs.Sizes.{Fits, FitParts, FitBound};
 ghost use Rattle.acl_code.specs.Tables.{Grown, TermsLie, IsBuilt, AreBuilt, IfNone};
 
@@ -42,6 +43,7 @@ fn build_in(
     ensures environment { OnOk result (environment.new ≡ environment.old) }
     ensures grows { Grown terms.old terms.new }
     ensures words { TermsLie heap.now terms.new }
+    ensures known { (n : ℕ) → 1 < n → FormIsKnown n (seen_core heap.now core.now) → ConstantsAreKnown n heap.now terms.old → ConstantsAreKnown n heap.now terms.new }
 {
     match core {
         Core::Var(x) => {
@@ -150,6 +152,7 @@ fn build_under(
     ensures environment { OnOk result (environment.new ≡ environment.old) }
     ensures grows { Grown terms.old terms.new }
     ensures words { TermsLie heap.now terms.new }
+    ensures known { (n : ℕ) → 1 < n → FormIsKnown n (seen_core heap.now body.now) → ConstantsAreKnown n heap.now terms.old → ConstantsAreKnown n heap.now terms.new }
 {
     let mark = environment.len();
     let inner = bind_ordinary(environment, world, heap, names, at)?;
@@ -176,6 +179,7 @@ fn build_inside(
     ensures environment { OnOk result (environment.new ≡ environment.old) }
     ensures grows { Grown terms.old terms.new }
     ensures words { TermsLie heap.now terms.new }
+    ensures known { (n : ℕ) → 1 < n → FormIsKnown n (seen_core heap.now body.now) → ConstantsAreKnown n heap.now terms.old → ConstantsAreKnown n heap.now terms.new }
 {
     let mark = environment.len();
     let inner = bind_all(environment, names, at)?;
@@ -201,6 +205,7 @@ fn build_parts(
     ensures environment { OnOk result (environment.new ≡ environment.old) }
     ensures grows { Grown terms.old terms.new }
     ensures words { TermsLie heap.now terms.new }
+    ensures known { (n : ℕ) → 1 < n → FormsAreKnown n (cores.cores (seen_cores heap.now parts.now)) → ConstantsAreKnown n heap.now terms.old → ConstantsAreKnown n heap.now terms.new }
 {
     let mut found = Items::new(alloc);
     for (i, part) in parts.iter().enumerate() {
@@ -230,6 +235,7 @@ fn build_bound(
     ensures environment { OnOk result (environment.new ≡ environment.old) }
     ensures grows { Grown terms.old terms.new }
     ensures words { TermsLie heap.now terms.new }
+    ensures known { (n : ℕ) → 1 < n → FormsAreKnown n (cores.cores (seen_bound heap.now bindings.now)) → ConstantsAreKnown n heap.now terms.old → ConstantsAreKnown n heap.now terms.new }
 {
     let mut found = Items::new(alloc);
     for (i, binding) in bindings.iter().enumerate() {
@@ -257,6 +263,7 @@ fn build_body(
     ensures built { IfOk result (λ r. IsBuilt heap.now terms.new r (resolved (seen_world heap.now world.now) (formal_environment (numbers formals.now)) (length formals.now) (seen_core heap.now body.now))) }
     ensures grows { Grown terms.old terms.new }
     ensures words { TermsLie heap.now terms.new }
+    ensures known { (n : ℕ) → 1 < n → FormIsKnown n (seen_core heap.now body.now) → ConstantsAreKnown n heap.now terms.old → ConstantsAreKnown n heap.now terms.new }
 {
     let mut environment = Environment::new(alloc);
     let t = build_inside(
@@ -290,6 +297,7 @@ pub fn build(
     ensures err { OnErr result (terms.new ≡ terms.old) }
     ensures grows { Grown terms.old terms.new }
     ensures words { TermsLie heap.now terms.new }
+    ensures known { (n : ℕ) → 1 < n → FormIsKnown n (seen_core heap.now body.now) → ConstantsAreKnown n heap.now terms.old → ConstantsAreKnown n heap.now terms.new }
 {
     let mark = terms.len();
     match build_body(alloc, terms, world, heap, formals, body) {

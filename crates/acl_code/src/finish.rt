@@ -1,10 +1,11 @@
 //! What is left to do at a form once its parts are built.
 
-ghost use Rattle.std.specs.Prelude.{◌≡◌, ◌<◌, ◌≤◌, map, length, Some, IfOk, option_map};
+ghost use Rattle.std.specs.Prelude.{◌≡◌, ◌<◌, ◌≤◌, ℕ, map, length, Some, IfOk, option_map};
 ghost use Rattle.acl_heap.specs.Objects.{object_of, reach};
 ghost use Rattle.model_slots.specs.Trees as trees;
 ghost use Rattle.model_slots.specs.Resolved.{both, all_three};
 ghost use Rattle.acl_code.specs.Tables.{Within, AllWithin, seen_operand, operand_reach, seen_term, seen_parts, seen_child, Grown, TermsLie, ChildrenLie};
+ghost use Rattle.acl_code.specs.Constants.{WordIsKnown, OperandIsKnown, ChildrenAreKnown, ConstantsAreKnown};
 
 use crate::parts::{put, put_parts};
 use crate::table::Terms;
@@ -25,6 +26,7 @@ pub fn finish_var(
     ensures is { IfOk result (λ r. seen_term heap.now terms.new r ≡ Some (trees.Leaf (seen_operand heap.now variable))) }
     ensures grows { Grown terms.old terms.new }
     ensures words { TermsLie heap.now terms.new }
+    ensures known { (n : ℕ) → OperandIsKnown n heap.now variable → ConstantsAreKnown n heap.now terms.old → ConstantsAreKnown n heap.now terms.new }
 {
     match variable {
         Operand::Slot(slot) => {
@@ -49,6 +51,7 @@ pub fn finish_const(
     ensures is { IfOk result (λ r. seen_term heap.now terms.new r ≡ Some (trees.Leaf (trees.Const (object_of heap.now word)))) }
     ensures grows { Grown terms.old terms.new }
     ensures words { TermsLie heap.now terms.new }
+    ensures known { (n : ℕ) → WordIsKnown n heap.now word → ConstantsAreKnown n heap.now terms.old → ConstantsAreKnown n heap.now terms.new }
 {
     let t = put(terms, heap, Term::Const(word))?;
     Ok(Some(t))
@@ -70,6 +73,7 @@ pub fn finish_if(
     ensures is { IfOk result (λ r. seen_term heap.now terms.new r ≡ all_three (trees.If at) (seen_term heap.now terms.old test) (seen_term heap.now terms.old then) (seen_term heap.now terms.old other)) }
     ensures grows { Grown terms.old terms.new }
     ensures words { TermsLie heap.now terms.new }
+    ensures known { (n : ℕ) → ConstantsAreKnown n heap.now terms.old → ConstantsAreKnown n heap.now terms.new }
 {
     match test {
         None => Ok(None),
@@ -106,6 +110,7 @@ pub fn finish_let(
     ensures is { IfOk result (λ r. seen_term heap.now terms.new r ≡ both (trees.Let at) (seen_parts heap.now terms.old bound) (seen_term heap.now terms.old body)) }
     ensures grows { Grown terms.old terms.new }
     ensures words { TermsLie heap.now terms.new }
+    ensures known { (n : ℕ) → ConstantsAreKnown n heap.now terms.old → ConstantsAreKnown n heap.now terms.new }
 {
     match bound {
         None => Ok(None),
@@ -132,6 +137,7 @@ pub fn finish_mv(
     ensures is { IfOk result (λ r. seen_term heap.now terms.new r ≡ option_map (trees.Mv at) (seen_parts heap.now terms.old parts)) }
     ensures grows { Grown terms.old terms.new }
     ensures words { TermsLie heap.now terms.new }
+    ensures known { (n : ℕ) → ConstantsAreKnown n heap.now terms.old → ConstantsAreKnown n heap.now terms.new }
 {
     match parts {
         None => Ok(None),
@@ -157,6 +163,7 @@ pub fn finish_mv_let(
     ensures is { IfOk result (λ r. seen_term heap.now terms.new r ≡ both (trees.MvLet at) (seen_term heap.now terms.old bound) (seen_term heap.now terms.old body)) }
     ensures grows { Grown terms.old terms.new }
     ensures words { TermsLie heap.now terms.new }
+    ensures known { (n : ℕ) → ConstantsAreKnown n heap.now terms.old → ConstantsAreKnown n heap.now terms.new }
 {
     match bound {
         None => Ok(None),
@@ -186,6 +193,7 @@ pub fn finish_stobj_let(
     ensures is { IfOk result (λ r. seen_term heap.now terms.new r ≡ all_three (trees.StobjLet at) (option_map (map (seen_child heap.now)) children) (seen_term heap.now terms.old producer) (seen_term heap.now terms.old consumer)) }
     ensures grows { Grown terms.old terms.new }
     ensures words { TermsLie heap.now terms.new }
+    ensures known { (n : ℕ) → ChildrenAreKnown n heap.now children → ConstantsAreKnown n heap.now terms.old → ConstantsAreKnown n heap.now terms.new }
 {
     match children {
         None => Ok(None),
@@ -223,6 +231,7 @@ pub fn finish_with_local(
     ensures is { IfOk result (λ r. seen_term heap.now terms.new r ≡ both (trees.WithLocal at stobj.0) (seen_term heap.now terms.old producer) (seen_term heap.now terms.old body)) }
     ensures grows { Grown terms.old terms.new }
     ensures words { TermsLie heap.now terms.new }
+    ensures known { (n : ℕ) → ConstantsAreKnown n heap.now terms.old → ConstantsAreKnown n heap.now terms.new }
 {
     match producer {
         None => Ok(None),
@@ -253,6 +262,7 @@ pub fn finish_must_be_equal(
     ensures is { IfOk result (λ r. seen_term heap.now terms.new r ≡ option_map trees.MustBeEqual (seen_term heap.now terms.old logic)) }
     ensures grows { Grown terms.old terms.new }
     ensures words { TermsLie heap.now terms.new }
+    ensures known { (n : ℕ) → ConstantsAreKnown n heap.now terms.old → ConstantsAreKnown n heap.now terms.new }
 {
     match logic {
         None => Ok(None),
@@ -276,6 +286,7 @@ pub fn finish_call(
     ensures is { IfOk result (λ r. seen_term heap.now terms.new r ≡ both (trees.Call at) (option_map (λ (f : FnId). f.0) function) (seen_parts heap.now terms.old actuals)) }
     ensures grows { Grown terms.old terms.new }
     ensures words { TermsLie heap.now terms.new }
+    ensures known { (n : ℕ) → ConstantsAreKnown n heap.now terms.old → ConstantsAreKnown n heap.now terms.new }
 {
     match function {
         None => Ok(None),

@@ -1,7 +1,7 @@
 //! Terms: core forms as the machine runs them, with slots in place of names and numbers in place of functions, in one table.
 #![tactic(auto)]
 
-ghost use Rattle.acl_code.specs.Laws.{TablesGrow, HeapsGrow, AreFew};
+ghost use Rattle.acl_code.specs.Laws.{TablesGrow, HeapsGrow, ConstantsStayKnown, AreFew};
 
 mod building;
 mod environment;
@@ -32,6 +32,12 @@ pub fn growth_keeps_trees()
 #[tactic(auto, using(crate::proofs::LawLemmas::heaps_grow))]
 pub fn heap_growth_keeps_trees()
     ensures { HeapsGrow }
+{}
+
+/// The constants of a table stay known as it grows or is cut, as its heap grows, and among more symbols.
+#[tactic(auto, using(crate::proofs::LawLemmas::constants_stay_known))]
+pub fn constants_stay_known()
+    ensures { ConstantsStayKnown }
 {}
 
 /// The values of a form with lists of at most 2 ^ 32 names or parts take at most so many slots a level, so that its term can

@@ -1,6 +1,6 @@
 //! The children that a `STOBJ-LET` binds.
 
-ghost use Rattle.std.specs.Prelude.{◌≡◌, ◌≤◌, ◌++◌, ◌∷◌, [], map, length, nat_eq, Some, None, IfOk, option_map};
+ghost use Rattle.std.specs.Prelude.{◌≡◌, ◌<◌, ◌≤◌, ℕ, ◌++◌, ◌∷◌, [], map, length, nat_eq, Some, None, IfOk, option_map};
 ghost use Rattle.std.specs.Option.{option_copied, option_map_or};
 ghost use Rattle.std.specs.List.{list_any};
 ghost use Rattle.model_terms.specs.Cores as cores;
@@ -10,6 +10,7 @@ ghost use Rattle.acl_terms.specs.Forms.{numbers, bound_names, seen_core, seen_co
 ghost use Rattle.acl_worlds.specs.Contents.{seen_world};
 ghost use Rattle.acl_code.specs.Environments.{seen_environment};
 ghost use Rattle.acl_code.specs.Tables.{seen_operand, seen_child, IndexLies, ChildrenLie};
+ghost use Rattle.acl_code.specs.Constants.{OperandIsKnown, IndexIsKnown, ChildIsKnown, ChildrenAreKnown, AtIsKnown, FormIsKnown, FormsAreKnown};
 ghost use Rattle.acl_code.specs.Children.{OperandLies, AtLies, ChildLies, BoundLie};
 
 use crate::environment::Environment;
@@ -36,6 +37,7 @@ pub fn number(world: &World, _heap: &Heap, f: SymId) -> Option<FnId>
 pub fn variable_operand(environment: &Environment, _heap: &Heap, name: SymId) -> Operand
     ensures is { seen_operand _heap.now result ≡ variable_at (seen_environment environment.now) name.0 }
     ensures word { OperandLies _heap.now result }
+    ensures known { (n : ℕ) → 1 < n → OperandIsKnown n _heap.now result }
 {
     match environment.find(name) {
         Some(slot) => Operand::Slot(slot),
@@ -44,10 +46,11 @@ pub fn variable_operand(environment: &Environment, _heap: &Heap, name: SymId) ->
 }
 
 /// What a variable or a constant is.
-#[tactic(auto, using(crate::proofs::ChildLemmas::operand_var, crate::proofs::ChildLemmas::operand_const, crate::proofs::ChildLemmas::operand_if, crate::proofs::ChildLemmas::operand_let, crate::proofs::ChildLemmas::operand_mv, crate::proofs::ChildLemmas::operand_mv_let, crate::proofs::ChildLemmas::operand_stobj_let, crate::proofs::ChildLemmas::operand_with_local, crate::proofs::ChildLemmas::operand_must_be_equal, crate::proofs::ChildLemmas::operand_call, crate::proofs::SizeLemmas::const_word))]
+#[tactic(auto, using(crate::proofs::ChildLemmas::operand_var, crate::proofs::ChildLemmas::operand_const, crate::proofs::ChildLemmas::operand_if, crate::proofs::ChildLemmas::operand_let, crate::proofs::ChildLemmas::operand_mv, crate::proofs::ChildLemmas::operand_mv_let, crate::proofs::ChildLemmas::operand_stobj_let, crate::proofs::ChildLemmas::operand_with_local, crate::proofs::ChildLemmas::operand_must_be_equal, crate::proofs::ChildLemmas::operand_call, crate::proofs::SizeLemmas::const_word, crate::proofs::ConstantLemmas::const_in))]
 fn operand(core: &Core, environment: &Environment, heap: &Heap) -> Operand
     requires { CoreLies heap.now core.now }
     ensures word { OperandLies heap.now result }
+    ensures known { (n : ℕ) → 1 < n → FormIsKnown n (seen_core heap.now core.now) → OperandIsKnown n heap.now result }
     ensures is { seen_operand heap.now result ≡ operand_in (seen_environment environment.now) (seen_core heap.now core.now) }
 {
     match core {
@@ -67,6 +70,7 @@ fn operand(core: &Core, environment: &Environment, heap: &Heap) -> Operand
 fn index(core: Option<&Core>, environment: &Environment, heap: &Heap) -> Option<Operand>
     requires { AtLies heap.now (option_copied core) }
     ensures word { IndexLies heap.now result }
+    ensures known { (n : ℕ) → 1 < n → AtIsKnown n heap.now (option_copied core.entry) → IndexIsKnown n heap.now result }
     ensures is { option_map (seen_operand heap.now) result ≡ index_in (seen_environment environment.now) (option_map (seen_core heap.now) (option_copied core.entry)) }
 {
     match core {
@@ -88,6 +92,7 @@ fn child_from(
 ) -> Option<Child>
     requires { AtLies heap.now (option_copied at) }
     ensures word { ChildLies heap.now result }
+    ensures known { (n : ℕ) → 1 < n → AtIsKnown n heap.now (option_copied at.entry) → ChildIsKnown n heap.now result }
     ensures is { option_map (seen_child heap.now) result ≡ child_in (seen_world heap.now world.now) (seen_environment environment.now) (numbers vars.now) name.0 (reached_from accessor.0 (option_map (seen_core heap.now) (option_copied at.entry)) (seen_core heap.now parent.now)) }
 {
     match variable(parent, heap) {
@@ -105,7 +110,7 @@ fn child_from(
     }
 }
 
-#[tactic(auto, using(crate::proofs::ChildLemmas::reached_one, crate::proofs::ChildLemmas::reached_two, crate::proofs::ChildLemmas::reached_other, crate::proofs::SizeLemmas::first_lies))]
+#[tactic(auto, using(crate::proofs::ChildLemmas::reached_one, crate::proofs::ChildLemmas::reached_two, crate::proofs::ChildLemmas::reached_other, crate::proofs::SizeLemmas::first_lies, crate::proofs::ConstantLemmas::first_known))]
 fn child_by(
     world: &World,
     heap: &Heap,
@@ -117,6 +122,7 @@ fn child_by(
 ) -> Option<Child>
     requires { most (map core_reach actuals.now) ≤ length heap.now }
     ensures word { ChildLies heap.now result }
+    ensures known { (n : ℕ) → 1 < n → FormsAreKnown n (cores.cores (seen_cores heap.now actuals.now)) → ChildIsKnown n heap.now result }
     ensures is { option_map (seen_child heap.now) result ≡ child_in (seen_world heap.now world.now) (seen_environment environment.now) (numbers vars.now) name.0 (reached_by accessor.0 (cores.cores (seen_cores heap.now actuals.now))) }
 {
     if actuals.len() == 1 {
@@ -148,7 +154,7 @@ fn child_by(
 }
 
 /// The child that a name is bound to, where the form reaches one.
-#[tactic(auto, using(crate::proofs::ChildLemmas::child_var, crate::proofs::ChildLemmas::child_const, crate::proofs::ChildLemmas::child_if, crate::proofs::ChildLemmas::child_let, crate::proofs::ChildLemmas::child_mv, crate::proofs::ChildLemmas::child_mv_let, crate::proofs::ChildLemmas::child_stobj_let, crate::proofs::ChildLemmas::child_with_local, crate::proofs::ChildLemmas::child_must_be_equal, crate::proofs::ChildLemmas::child_call, crate::proofs::SizeLemmas::call_words))]
+#[tactic(auto, using(crate::proofs::ChildLemmas::child_var, crate::proofs::ChildLemmas::child_const, crate::proofs::ChildLemmas::child_if, crate::proofs::ChildLemmas::child_let, crate::proofs::ChildLemmas::child_mv, crate::proofs::ChildLemmas::child_mv_let, crate::proofs::ChildLemmas::child_stobj_let, crate::proofs::ChildLemmas::child_with_local, crate::proofs::ChildLemmas::child_must_be_equal, crate::proofs::ChildLemmas::child_call, crate::proofs::SizeLemmas::call_words, crate::proofs::ConstantLemmas::call_in))]
 fn child(
     world: &World,
     heap: &Heap,
@@ -159,6 +165,7 @@ fn child(
 ) -> Option<Child>
     requires { CoreLies heap.now bound.now }
     ensures word { ChildLies heap.now result }
+    ensures known { (n : ℕ) → 1 < n → FormIsKnown n (seen_core heap.now bound.now) → ChildIsKnown n heap.now result }
     ensures is { option_map (seen_child heap.now) result ≡ child_in (seen_world heap.now world.now) (seen_environment environment.now) (numbers vars.now) name.0 (reached (seen_core heap.now bound.now)) }
 {
     match bound {
@@ -189,6 +196,7 @@ pub fn children(
 ) -> Result<Option<Items<Child>>, AllocError>
     requires { BoundLie heap.now bindings.now }
     ensures words { IfOk result (λ r. ChildrenLie heap.now r) }
+    ensures known { IfOk result (λ r. (n : ℕ) → 1 < n → FormsAreKnown n (cores.cores (seen_bound heap.now bindings.now)) → ChildrenAreKnown n heap.now r) }
     ensures are { IfOk result (λ r. option_map (map (seen_child heap.now)) r ≡ children_in (seen_world heap.now world.now) (seen_environment environment.now) (numbers vars.now) (bound_names bindings.now) (cores.cores (seen_bound heap.now bindings.now))) }
 {
     let mut found = Items::new(alloc);

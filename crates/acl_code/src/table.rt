@@ -1,6 +1,8 @@
 //! The table of terms.
 
-ghost use Rattle.std.specs.Prelude.{◌≡◌, ◌≤◌, ◌<◌, [], ◌∷◌, ◌++◌, length, take, Some, slice_get, IfOk, OnOk, OnErr};
+ghost use Rattle.std.specs.Prelude.{◌≡◌, ◌≤◌, ◌<◌, ℕ, [], ◌∷◌, ◌++◌, length, take, Some, slice_get, IfOk, OnOk, OnErr};
+ghost use Rattle.acl_heap.specs.Objects.{Objects};
+ghost use Rattle.acl_code.specs.Constants.{TermIsKnown, ConstantsAreKnown};
 ghost use Rattle.acl_code.specs.Tables.{StandsOver, IsTable};
 
 use crate::term::Term;
@@ -60,12 +62,13 @@ impl Terms {
     }
 
     /// Puts a term last, and answers its number. A refused term leaves the table as it was.
-    #[tactic(auto, using(crate::proofs::TableLemmas::table_push))]
+    #[tactic(auto, using(crate::proofs::TableLemmas::table_push, crate::proofs::ConstantLemmas::known_put, crate::proofs::ConstantLemmas::known_same))]
     pub fn add(&mut self, term: Term) -> Result<TermId, AllocError>
         requires { StandsOver (length self.old) term }
         ensures number { IfOk result (λ t. t.0 ≡ length self.old) }
         ensures ok { OnOk result (self.new ≡ self.old ++ term ∷ []) }
         ensures err { OnErr result (self.new ≡ self.old) }
+        ensures known { (n : ℕ) (h : Objects) → TermIsKnown n h term → ConstantsAreKnown n h self.old → ConstantsAreKnown n h self.new }
     {
         let at = self.terms.len();
         self.terms.push(term)?;

@@ -1,5 +1,5 @@
 -- The outcomes that those of the program stand for, and the evaluation of a macro's body.
-use Rattle.std.specs.Prelude.{◌≡◌, ◌≢◌, ℕ, ◌≤◌, List, [], length, map, Option, Some, None}
+use Rattle.std.specs.Prelude.{◌≡◌, ◌≢◌, ℕ, ◌≤◌, List, [], ◌∷◌, length, map, Option, Some, None}
 use Rattle.std.specs.List.{Contains}
 use Rattle.model_objects.specs.Object.{Object}
 use Rattle.model_symbols.specs.Symbols.{QualifiedName, Table}
@@ -27,10 +27,6 @@ use Rattle.acl_worlds.specs.Contents.{Content}
 abbrev pub words_at : Objects → List Word → List (Object ℕ)
 words_at h ws = map (object_of h) ws
 
--- how many cells a heap has at least in which the words lie
-abbrev pub words_reach : List Word → ℕ
-words_reach ws = most (map reach ws)
-
 -- ---- values and stops
 
 abbrev pub seen_shown : Objects → Shown → outcomes.Shown ℕ
@@ -46,6 +42,12 @@ all_shown h vs = map (seen_shown h) vs
 
 abbrev pub all_shown_reach : List Shown → ℕ
 all_shown_reach vs = most (map shown_reach vs)
+
+-- the words among values
+abbrev pub shown_words : List Shown → List Word
+shown_words [] = []
+shown_words (shown.Value w ∷ vs) = w ∷ shown_words vs
+shown_words (shown.Object s ∷ vs) = shown_words vs
 
 -- want of memory is no stop of an evaluation
 abbrev pub seen_stop : Objects → Stop → outcomes.Stop ℕ
@@ -66,6 +68,16 @@ stop_reach (stop.Large f) = 0
 stop_reach (stop.Symbols f) = 0
 stop_reach stop.Memory = 0
 
+-- the words of its arguments
+abbrev pub stop_words : Stop → List Word
+stop_words (stop.Guard f args) = shown_words args
+stop_words stop.Steps = []
+stop_words stop.Depth = []
+stop_words (stop.Range f) = []
+stop_words (stop.Large f) = []
+stop_words (stop.Symbols f) = []
+stop_words stop.Memory = []
+
 -- ---- outcomes
 
 abbrev pub state_at : List QualifiedName → outcomes.Stobjs ℕ → Outcome → outcomes.State ℕ
@@ -85,6 +97,14 @@ ended_reach o (Some s) = stop_reach s
 
 abbrev pub seen_outcome : Objects → List QualifiedName → outcomes.Stobjs ℕ → Outcome → outcomes.Outcome ℕ
 seen_outcome h symbols stobjs o = ended h symbols stobjs o o.stop
+
+-- the words of what is given, or of the arguments of the stop
+abbrev pub ended_words : Outcome → Option Stop → List Word
+ended_words o None = shown_words o.values.items
+ended_words o (Some s) = stop_words s
+
+abbrev pub outcome_words : Outcome → List Word
+outcome_words o = ended_words o o.stop
 
 -- the outcome is this one, whose words lie in the heap, unless memory was refused
 pub record IsOutcome (h : Objects) (symbols : List QualifiedName) (stobjs : outcomes.Stobjs ℕ) (o : Outcome) (e : outcomes.Outcome ℕ) : Type 0 where

@@ -1,3 +1,4 @@
 pub mod LookLemmas
 pub mod EndLemmas
 pub mod SettleLemmas
+pub mod KnownLemmas

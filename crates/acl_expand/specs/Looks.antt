@@ -15,6 +15,7 @@ use Rattle.acl_layers.specs.Rows.{seen_row}
 use Rattle.acl_layers.specs.Layers.{seen_found, found_reach, FoundFits, IsWhole}
 use Rattle.acl_worlds.specs.Contents.{Content, seen_world}
 use Rattle.acl_engine.specs.Outcomes.{seen_stop, seen_body, IsMacroOf}
+use Rattle.acl_expand.specs.Refusals.{IsToldFault}
 use Rattle.acl_expand.specs.declared.looked.Looked.{Looked}
 use Rattle.acl_expand.specs.declared.looked.Looked.TheVariants as looked
 
@@ -28,11 +29,11 @@ seen_fault h inside (fault.Arity s) = faults.Arity s.0
 seen_fault h inside fault.TooNested = faults.TooNested
 seen_fault h inside fault.Memory = faults.TooNested
 
--- what is seen stands for this; its words lie in the heap, what is left of a row fits it, a row that is used is a whole one, and a
--- macro is one of the world
+-- what is seen stands for this; its words lie in the heap, what is left of a row fits it, a row that is used is a whole one, a macro
+-- is one of the world, and a fault is no want of memory inside a macro
 abbrev pub StandsLook : Objects → Content → Looked → expansion.Look → Type 0
 StandsLook h w (looked.Stands f) o = (o ≡ expansion.Stands (seen_found h f)) × (found_reach f ≤ length h) × FoundFits h f
-StandsLook h w (looked.Bad e) o = o ≡ expansion.Bad (seen_fault h None e)
+StandsLook h w (looked.Bad e) o = (o ≡ expansion.Bad (seen_fault h None e)) × IsToldFault e
 StandsLook h w (looked.Use s row d) o = (o ≡ expansion.Use s.0 (seen_row row) (object_of h d)) × Lies h d × IsWhole row
 StandsLook h w (looked.UserUse s m d) o =
     (o ≡ expansion.UserUse s.0 (seen_formals h m.now.formals) (seen_body h m.now) (object_of h d)) × Lies h d × IsMacroOf w m.now

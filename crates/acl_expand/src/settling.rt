@@ -1,6 +1,6 @@
 //! What uses of macros make of their place.
 
-ghost use Rattle.std.specs.Prelude.{◌≡◌, ◌≢◌, ◌+◌, ◌<◌, ◌≤◌, ◌^◌, [], length, Some, OnOk, IfErr};
+ghost use Rattle.std.specs.Prelude.{◌≡◌, ◌≢◌, ◌+◌, ◌<◌, ◌≤◌, ◌^◌, [], length, Some, OnOk, IfOk, IfErr};
 ghost use Rattle.model_prims.specs.Kinds.{by_number};
 ghost use Rattle.model_eval.specs.Variables.{single};
 ghost use Rattle.model_eval.specs.Variables as variables;
@@ -8,11 +8,13 @@ ghost use Rattle.model_expansion.specs.Expansion as expansion;
 ghost use Rattle.acl_heap.specs.Objects.{object_of, Lies, Denotes};
 ghost use Rattle.acl_terms.specs.declared.outcome.Stop.TheVariants as stop;
 ghost use Rattle.acl_layers.specs.Rows.{seen_row};
-ghost use Rattle.acl_layers.specs.Layers.{IsWhole};
-ghost use Rattle.acl_engine.specs.Outcomes.{all_shown, all_shown_reach, seen_outcome, ended_reach};
+ghost use Rattle.acl_layers.specs.Layers.{IsWhole, seen_made};
+ghost use Rattle.acl_engine.specs.Outcomes.{all_shown, all_shown_reach, seen_outcome, ended_reach, outcome_words};
+ghost use Rattle.acl_forms.specs.Forms.{AreWhole};
+ghost use Rattle.model_expansion_parts.specs.Known.{KnowsMade};
 ghost use Rattle.acl_expand.specs.Looks.{setting_at};
 ghost use Rattle.acl_terms.specs.declared.fault.ExpandFault.TheVariants as fault;
-ghost use Rattle.acl_expand.specs.Refusals.{stop_fault};
+ghost use Rattle.acl_expand.specs.Refusals.{stop_fault, IsTold};
 ghost use Rattle.acl_expand.specs.Progresses.{seen_progress, EndsMade};
 
 use crate::progress::{Origin, Progress, Refused, no_stop};
@@ -42,7 +44,8 @@ pub fn built(
 ) -> Result<Made, Refused>
     requires whole { IsWhole row }
     requires word { Lies heap.now d }
-    ensures { EndsMade heap.now (seen_progress syms.now.symbols _progress) result (expansion.built (setting_at heap.now _world.now syms.now _limits.steps _limits.depth) head.0 (seen_row row) (object_of heap.now d) (seen_progress syms.now.symbols _progress)) }
+    ensures told { IfErr result IsTold }
+    ensures ends { EndsMade heap.now (seen_progress syms.now.symbols _progress) result (expansion.built (setting_at heap.now _world.now syms.now _limits.steps _limits.depth) head.0 (seen_row row) (object_of heap.now d) (seen_progress syms.now.symbols _progress)) }
 {
     match elements(heap, d) {
         None => Err(no_stop(ExpandFault::BadShape { head })),
@@ -71,6 +74,7 @@ fn only_value(_heap: &Heap, values: &[Shown]) -> Word
 fn stopped(stop: Stop, inside: Option<SymId>) -> Refused
     ensures is { result.fault ≡ stop_fault stop }
     ensures inside { result.fault ≢ fault.Memory → result.inside ≡ inside }
+    ensures told { IsTold result }
 {
     match stop {
         Stop::Memory => no_stop(ExpandFault::Memory),
@@ -95,6 +99,7 @@ pub fn at_stop(stop: Stop, inside: Option<SymId>) -> Refused
 
 /// What an expansion is of the outcome of a macro's body: its value stands at the place. Where memory was refused, that is the
 /// fault.
+#[tactic(auto, using(crate::proofs::KnownLemmas::value_known))]
 pub fn again(
     heap: &Heap,
     _syms: &Symbols,
@@ -104,7 +109,11 @@ pub fn again(
     requires lies { ended_reach outcome outcome.stop ≤ length heap.now }
     requires outer { progress.old.outer + outcome.outer < 2 ^ 64 }
     requires next { outcome.outer + 1 < 2 ^ 64 }
+    requires whole { AreWhole _syms.now heap.now (outcome_words outcome) }
+    requires enough { 2 ≤ length _syms.now.symbols }
     ensures ends { outcome.stop ≢ Some stop.Memory → EndsMade heap.now (seen_progress _syms.now.symbols progress.new) result (expansion.again (seen_progress _syms.now.symbols progress.old) (seen_outcome heap.now _syms.now.symbols [] outcome)) }
+    ensures known { IfOk result (λ m. KnowsMade (length _syms.now.symbols) (seen_made heap.now m)) }
+    ensures told { IfErr result IsTold }
     ensures value { OnOk result (outcome.stop ≢ Some stop.Memory) }
     ensures fault { IfErr result (λ r. r.fault ≢ fault.Memory → outcome.stop ≢ Some stop.Memory) }
     ensures calls { progress.new.calls ≡ outcome.calls }

@@ -1,6 +1,6 @@
 //! One step at a place, and all of them.
 
-ghost use Rattle.std.specs.Prelude.{◌≡◌, ◌≤◌, length};
+ghost use Rattle.std.specs.Prelude.{◌≡◌, ◌≤◌, length, IfOk, IfErr};
 ghost use Rattle.acl_base.specs.Limits.{AreLimits};
 ghost use Rattle.model_expansion.specs.Forms.{elements};
 ghost use Rattle.model_expansion.specs.Layers as layers;
@@ -8,12 +8,16 @@ ghost use Rattle.model_expansion.specs.Expansion as expansion;
 ghost use Rattle.acl_forms.specs.Forms.{Grown};
 ghost use Rattle.acl_heap.specs.Objects.{object_of, Lies};
 ghost use Rattle.acl_terms.specs.Definitions.{seen_formals, formals_reach};
-ghost use Rattle.acl_worlds.specs.Contents.{WorldLies};
+ghost use Rattle.acl_worlds.specs.Contents.{seen_world, WorldLies};
+ghost use Rattle.model_objects.specs.Named.{Knows};
+ghost use Rattle.model_expansion_forms.specs.Rows.{AllKnown};
+ghost use Rattle.model_expansion_parts.specs.Known.{KnowsRow, KnowsFormals, KnowsMade, KnowsFound, KnowsSupplies};
 ghost use Rattle.acl_layers.specs.Rows.{seen_row};
 ghost use Rattle.acl_layers.specs.Lists.{seen_left, LeftLies};
-ghost use Rattle.acl_layers.specs.Layers.{IsWhole, RestFits};
+ghost use Rattle.acl_layers.specs.Layers.{IsWhole, RestFits, seen_made, seen_found};
 ghost use Rattle.acl_engine.specs.Outcomes.{seen_body, IsMacroOf};
 ghost use Rattle.acl_expand.specs.Looks.{setting_at};
+ghost use Rattle.acl_expand.specs.Refusals.{IsTold};
 ghost use Rattle.acl_expand.specs.Progresses.{seen_progress, EndsMade, EndsFound, IsWithin};
 
 use crate::entering::entered;
@@ -44,9 +48,14 @@ fn counted_row(
 ) -> Result<Made, Refused>
     requires whole { IsWhole row }
     requires word { Lies heap.now d }
+    requires enough { 2 ≤ length syms.now.symbols }
+    requires row { KnowsRow (length syms.now.symbols) (seen_row row) }
+    requires known { Knows (length syms.now.symbols) (object_of heap.now d) }
     requires limits { AreLimits limits.steps limits.depth }
     requires counts { IsWithin progress.old limits.steps }
     ensures counts { IsWithin progress.new limits.steps }
+    ensures known { IfOk result (λ m. KnowsMade (length syms.now.symbols) (seen_made heap.now m)) }
+    ensures told { IfErr result IsTold }
     ensures ends { EndsMade heap.now (seen_progress syms.now.symbols progress.new) result (expansion.counting_expansion limits.steps (expansion.built (setting_at heap.now world.now syms.now limits.steps limits.depth) head.0 (seen_row row) (object_of heap.now d)) (seen_progress syms.now.symbols progress.old)) }
 {
     if progress.calls >= limits.steps {
@@ -73,18 +82,23 @@ fn counted_macro<E: Engine>(
     definition: &Macro,
     d: Word,
 ) -> Result<Made, Refused>
-    requires fits { E.fits engine.old world.now }
+    requires fits { E.fits engine.old heap.old world.now (length syms.old.symbols) }
     requires world { WorldLies heap.old world.now }
     requires definition { IsMacroOf world.now definition.now }
     requires formals { formals_reach definition.now.formals ≤ length heap.old }
     requires word { Lies heap.old d }
+    requires enough { 2 ≤ length syms.old.symbols }
+    requires defaults { KnowsFormals (length syms.old.symbols) (seen_formals heap.old definition.now.formals) }
+    requires known { Knows (length syms.old.symbols) (object_of heap.old d) }
     requires limits { AreLimits limits.steps limits.depth }
     requires counts { IsWithin progress.old limits.steps }
     ensures grows { Grown syms.old syms.new heap.old heap.new }
     ensures packages { syms.new.packages ≡ syms.old.packages }
     ensures live { E.live engine.new ≡ E.live engine.old }
-    ensures fits { E.fits engine.new world.now }
+    ensures fits { E.fits engine.new heap.new world.now (length syms.new.symbols) }
     ensures counts { IsWithin progress.new limits.steps }
+    ensures known { IfOk result (λ m. KnowsMade (length syms.new.symbols) (seen_made heap.new m)) }
+    ensures told { IfErr result IsTold }
     ensures ends { EndsMade heap.new (seen_progress syms.new.symbols progress.new) result (expansion.counting_expansion limits.steps (expansion.used (setting_at heap.old world.now syms.old limits.steps limits.depth) head.0 (seen_formals heap.old definition.now.formals) (seen_body heap.old definition.now) (elements (object_of heap.old d))) (seen_progress syms.old.symbols progress.old)) }
 {
     if progress.calls >= limits.steps {
@@ -101,7 +115,7 @@ fn counted_macro<E: Engine>(
 }
 
 /// One step at a place: what stands there, or what a use there makes that may be counted.
-#[tactic(auto, using(crate::proofs::SettleLemmas::formals_lie))]
+#[tactic(auto, using(crate::proofs::SettleLemmas::formals_lie, crate::proofs::KnownLemmas::memory_told, crate::proofs::KnownLemmas::use_row_known))]
 pub fn step<E: Engine>(
     alloc: Global,
     world: &World,
@@ -112,16 +126,20 @@ pub fn step<E: Engine>(
     progress: &mut Progress,
     form: Word,
 ) -> Result<Made, Refused>
-    requires fits { E.fits engine.old world.now }
+    requires fits { E.fits engine.old heap.old world.now (length syms.old.symbols) }
     requires world { WorldLies heap.old world.now }
     requires word { Lies heap.old form }
+    requires supplies { KnowsSupplies (length syms.old.symbols) (seen_world heap.old world.now) }
+    requires known { Knows (length syms.old.symbols) (object_of heap.old form) }
     requires limits { AreLimits limits.steps limits.depth }
     requires counts { IsWithin progress.old limits.steps }
     ensures grows { Grown syms.old syms.new heap.old heap.new }
     ensures packages { syms.new.packages ≡ syms.old.packages }
     ensures live { E.live engine.new ≡ E.live engine.old }
-    ensures fits { E.fits engine.new world.now }
+    ensures fits { E.fits engine.new heap.new world.now (length syms.new.symbols) }
     ensures counts { IsWithin progress.new limits.steps }
+    ensures known { IfOk result (λ m. KnowsMade (length syms.new.symbols) (seen_made heap.new m)) }
+    ensures told { IfErr result IsTold }
     ensures ends { EndsMade heap.new (seen_progress syms.new.symbols progress.new) result (expansion.looked (setting_at heap.old world.now syms.old limits.steps limits.depth) (expansion.look_at (setting_at heap.old world.now syms.old limits.steps limits.depth) syms.old.symbols (object_of heap.old form)) (seen_progress syms.old.symbols progress.old)) }
 {
     match look_at(alloc, heap, syms, world, limits, form)? {
@@ -156,16 +174,20 @@ pub fn settle<E: Engine>(
     progress: &mut Progress,
     form: Word,
 ) -> Result<Found, Refused>
-    requires fits { E.fits engine.old world.now }
+    requires fits { E.fits engine.old heap.old world.now (length syms.old.symbols) }
     requires world { WorldLies heap.old world.now }
     requires word { Lies heap.old form }
+    requires supplies { KnowsSupplies (length syms.old.symbols) (seen_world heap.old world.now) }
+    requires known { Knows (length syms.old.symbols) (object_of heap.old form) }
     requires limits { AreLimits limits.steps limits.depth }
     requires counts { IsWithin progress.old limits.steps }
     ensures grows { Grown syms.old syms.new heap.old heap.new }
     ensures packages { syms.new.packages ≡ syms.old.packages }
     ensures live { E.live engine.new ≡ E.live engine.old }
-    ensures fits { E.fits engine.new world.now }
+    ensures fits { E.fits engine.new heap.new world.now (length syms.new.symbols) }
     ensures counts { IsWithin progress.new limits.steps }
+    ensures known { IfOk result (λ f. KnowsFound (length syms.new.symbols) (seen_found heap.new f)) }
+    ensures told { IfErr result IsTold }
     ensures ends { EndsFound heap.new (seen_progress syms.new.symbols progress.new) result (expansion.settle (setting_at heap.old world.now syms.old limits.steps limits.depth) (object_of heap.old form) (seen_progress syms.old.symbols progress.old)) }
 {
     let mut left = limits.steps - progress.calls;
@@ -188,6 +210,7 @@ pub fn settle<E: Engine>(
 }
 
 /// What stands at the place of what is left of a row.
+#[tactic(auto, using(crate::proofs::KnownLemmas::memory_told))]
 pub fn rest_found<E: Engine>(
     alloc: Global,
     world: &World,
@@ -199,17 +222,22 @@ pub fn rest_found<E: Engine>(
     row: Row,
     left: Left,
 ) -> Result<Found, Refused>
-    requires fits { E.fits engine.old world.now }
+    requires fits { E.fits engine.old heap.old world.now (length syms.old.symbols) }
     requires world { WorldLies heap.old world.now }
     requires left { LeftLies heap.old left }
     requires row { RestFits heap.old row left }
+    requires supplies { KnowsSupplies (length syms.old.symbols) (seen_world heap.old world.now) }
+    requires row_known { KnowsRow (length syms.old.symbols) (seen_row row) }
+    requires known { AllKnown (length syms.old.symbols) (seen_left heap.old left) }
     requires limits { AreLimits limits.steps limits.depth }
     requires counts { IsWithin progress.old limits.steps }
     ensures grows { Grown syms.old syms.new heap.old heap.new }
     ensures packages { syms.new.packages ≡ syms.old.packages }
     ensures live { E.live engine.new ≡ E.live engine.old }
-    ensures fits { E.fits engine.new world.now }
+    ensures fits { E.fits engine.new heap.new world.now (length syms.new.symbols) }
     ensures counts { IsWithin progress.new limits.steps }
+    ensures known { IfOk result (λ f. KnowsFound (length syms.new.symbols) (seen_found heap.new f)) }
+    ensures told { IfErr result IsTold }
     ensures ends { EndsFound heap.new (seen_progress syms.new.symbols progress.new) result (expansion.row_found (setting_at heap.old world.now syms.old limits.steps limits.depth) (layers.made_of syms.old.symbols (seen_row row) (seen_left heap.old left)) (seen_progress syms.old.symbols progress.old)) }
 {
     match made_of(alloc, heap, syms, row, left)? {

@@ -8,6 +8,8 @@ use Rattle.model_expansion.specs.Faults.{ExpandFault, TooNested}
 use Rattle.model_expansion.specs.Layers as layers
 use Rattle.model_expansion.specs.Expansion.{Setting, Progress, Makes, Fails, Grow, part_found, grown, grown_all, grown_found, core_of_node, then_make}
 use Rattle.model_expansion_parts.specs.Parts as parts
+use Rattle.model_expansion_parts.specs.Known.{KnowsForm, KnowsPart, KnowsParts}
+use Rattle.model_expansion_parts.proofs.KnownLemmas.{form_later, part_later}
 use Rattle.acl_heap.specs.Objects.{Objects, Extends}
 use Rattle.acl_terms.specs.declared.form.Core.{Core}
 use Rattle.acl_terms.specs.Forms.{seen_core, seen_cores, core_reach, most}
@@ -15,6 +17,7 @@ use Rattle.acl_terms.specs.Growth.{seen_core-later}
 use Rattle.acl_layers.specs.declared.layer.Part.{Part}
 use Rattle.acl_layers.specs.Layers.{seen_part, seen_parts, part_reach, parts_reach, PartFits, PartsFit}
 use Rattle.acl_layers.specs.Growth.{seen_part-later, part_fits-later}
+use Rattle.acl_growing.specs.Ends.{KnowsForms}
 
 -- ---- one part
 
@@ -81,6 +84,22 @@ module _ {a b : Objects} (e : Extends a b) (ps : List Part) (i : ℕ) (d : Part)
 
   pub fits_there : PartsFit a ps → PartFits b (get_or ps i d)
   fits_there f = let r : part_reach (get_or ps i d) ≤ length a = omega (arith, reach_at ps i d l, lies) in part_fits-later e (get_or ps i d) r (fits_at a ps i d l f)
+
+known_at : (n : ℕ) (h : Objects) (ps : List Part) (i : ℕ) (d : Part) → i < length ps → KnowsParts n (seen_parts h ps) → KnowsPart n (seen_part h (get_or ps i d))
+known_at n h [] i d l k = absurd (omega (arith, l))
+known_at n h (p ∷ ps) zero d l k = k.0
+known_at n h (p ∷ ps) (suc i) d l k = known_at n h ps i d (omega (arith, l)) k.1
+
+-- where more symbols are known
+module _ (m n : ℕ) (le : m ≤ n) where
+  pub known_there : {a b : Objects} → Extends a b → (ps : List Part) (i : ℕ) (d : Part) → i < length ps → parts_reach ps ≤ length a → KnowsParts m (seen_parts a ps) → KnowsPart n (seen_part b (get_or ps i d))
+  known_there {a} {b} e ps i d l lies k =
+      let r : part_reach (get_or ps i d) ≤ length a = omega (arith, reach_at ps i d l, lies) in
+      subst (λ (q : layers.Part). KnowsPart n q) (sym (seen_part-later e (get_or ps i d) r)) (part_later m n le (seen_part a (get_or ps i d)) (known_at m a ps i d l k))
+
+  pub known_pushed : (fs : List cores.Core) (f : cores.Core) → KnowsForms m fs → KnowsForm n f → KnowsForms n (fs ++ f ∷ [])
+  known_pushed [] f k j = (j, tt)
+  known_pushed (g ∷ fs) f k j = (form_later m n le g k.0, known_pushed fs f k.1 j)
 
 -- ---- core forms as the heap grows
 

@@ -4,3 +4,4 @@ pub mod LetLemmas
 pub mod ReadyLemmas
 pub mod PlaceLemmas
 pub mod GrowLemmas
+pub mod ToldLemmas

@@ -4,6 +4,7 @@ use Rattle.std.specs.Global.{Vec}
 use Rattle.model_terms.specs.Cores as cores
 use Rattle.model_expansion.specs.Layers as layers
 use Rattle.model_expansion.specs.Expansion as expansion
+use Rattle.model_expansion_forms.specs.Nodes.{AllNodes, HasConstant, IsBelow}
 use Rattle.acl_heap.specs.Objects.{Objects}
 use Rattle.acl_terms.specs.declared.fault.ExpandFault.TheVariants as fault
 use Rattle.acl_terms.specs.declared.form.Core.{Core}
@@ -50,3 +51,7 @@ EndsCore h p (Err r) o = r.fault ≢ fault.Memory → o ≡ expansion.Fails (see
 abbrev pub EndsCores : Objects → expansion.Progress → Result (Vec Core) Refused → expansion.Expanded (List cores.Core) → Type 0
 EndsCores h p (Ok fs) o = (o ≡ expansion.Makes (seen_cores h fs.items) p) × (most (map core_reach fs.items) ≤ length h)
 EndsCores h p (Err r) o = r.fault ≢ fault.Memory → o ≡ expansion.Fails (seen_fault h (seen_name r.inside) r.fault) p
+
+-- the symbols in the constants of forms have numbers below n
+abbrev pub KnowsForms : ℕ → List cores.Core → Type 0
+KnowsForms n fs = AllNodes (HasConstant (IsBelow n)) (cores.cores fs)

@@ -1,15 +1,19 @@
 //! The core form of a form.
 
-ghost use Rattle.std.specs.Prelude.{◌≡◌, ◌≤◌, ◌++◌, ◌∷◌, [], map, length, OnOk};
+ghost use Rattle.std.specs.Prelude.{◌≡◌, ◌≤◌, ◌++◌, ◌∷◌, [], map, length, OnOk, IfOk, IfErr};
 ghost use Rattle.acl_base.specs.Limits.{AreLimits};
 ghost use Rattle.model_expansion.specs.Expansion as expansion;
 ghost use Rattle.acl_forms.specs.Forms.{Grown};
 ghost use Rattle.acl_heap.specs.Objects.{object_of, Lies};
 ghost use Rattle.acl_layers.specs.Layers.{seen_part, seen_parts, part_reach, parts_reach, PartFits, PartsFit};
-ghost use Rattle.acl_worlds.specs.Contents.{WorldLies};
+ghost use Rattle.acl_terms.specs.Forms.{seen_core, seen_cores};
+ghost use Rattle.acl_worlds.specs.Contents.{seen_world, WorldLies};
+ghost use Rattle.model_objects.specs.Named.{Knows};
+ghost use Rattle.model_expansion_parts.specs.Known.{KnowsForm, KnowsPart, KnowsParts, KnowsSupplies};
 ghost use Rattle.acl_expand.specs.Looks.{setting_at};
+ghost use Rattle.acl_expand.specs.Refusals.{IsTold};
 ghost use Rattle.acl_expand.specs.Progresses.{seen_progress, IsWithin};
-ghost use Rattle.acl_growing.specs.Ends.{EndsCore, EndsCores};
+ghost use Rattle.acl_growing.specs.Ends.{EndsCore, EndsCores, KnowsForms};
 
 use crate::node::core_of_node;
 use crate::placed::Placed;
@@ -29,7 +33,7 @@ const DEEPEST: u32 = 2_048;
 
 /// The core form of a part, where so many levels are left.
 #[cycle(grow)]
-#[tactic(auto, using(acl_forms::specs::Growth::growing, crate::proofs::GrowLemmas::grown_end, crate::proofs::GrowLemmas::grown_fails, crate::proofs::GrowLemmas::grown_leaf))]
+#[tactic(auto, using(acl_forms::specs::Growth::growing, crate::proofs::GrowLemmas::grown_end, crate::proofs::GrowLemmas::grown_fails, crate::proofs::GrowLemmas::grown_leaf, acl_expand::proofs::KnownLemmas::memory_told))]
 fn grow<E: Engine>(
     alloc: Global,
     world: &World,
@@ -41,17 +45,21 @@ fn grow<E: Engine>(
     part: Part,
     left: u32,
 ) -> Result<Core, Refused>
-    requires fits { E.fits engine.old world.now }
+    requires fits { E.fits engine.old heap.old world.now (length syms.old.symbols) }
     requires world { WorldLies heap.old world.now }
     requires part { part_reach part ≤ length heap.old }
     requires rest { PartFits heap.old part }
+    requires supplies { KnowsSupplies (length syms.old.symbols) (seen_world heap.old world.now) }
+    requires known { KnowsPart (length syms.old.symbols) (seen_part heap.old part) }
     requires limits { AreLimits limits.steps limits.depth }
     requires counts { IsWithin progress.old limits.steps }
     ensures grows { Grown syms.old syms.new heap.old heap.new }
     ensures packages { syms.new.packages ≡ syms.old.packages }
     ensures live { E.live engine.new ≡ E.live engine.old }
-    ensures fits { E.fits engine.new world.now }
+    ensures fits { E.fits engine.new heap.new world.now (length syms.new.symbols) }
     ensures counts { IsWithin progress.new limits.steps }
+    ensures known { IfOk result (λ f. KnowsForm (length syms.new.symbols) (seen_core heap.new f)) }
+    ensures told { IfErr result IsTold }
     ensures ends { EndsCore heap.new (seen_progress syms.new.symbols progress.new) result (expansion.grown (setting_at heap.old world.now syms.old limits.steps limits.depth) left (seen_part heap.old part) (seen_progress syms.old.symbols progress.old)) }
 {
     if left == 0 {
@@ -97,7 +105,7 @@ fn add(done: &mut Vec<Core>, core: Core) -> Result<(), AllocError>
 
 /// The core forms of parts in order.
 #[cycle(grow)]
-#[tactic(auto, using(acl_forms::specs::Growth::growing))]
+#[tactic(auto, using(acl_forms::specs::Growth::growing, acl_expand::proofs::KnownLemmas::memory_told))]
 fn grow_all<E: Engine>(
     alloc: Global,
     world: &World,
@@ -109,17 +117,21 @@ fn grow_all<E: Engine>(
     parts: &[Part],
     left: u32,
 ) -> Result<Vec<Core>, Refused>
-    requires fits { E.fits engine.old world.now }
+    requires fits { E.fits engine.old heap.old world.now (length syms.old.symbols) }
     requires world { WorldLies heap.old world.now }
     requires parts { parts_reach parts.now ≤ length heap.old }
     requires rest { PartsFit heap.old parts.now }
+    requires supplies { KnowsSupplies (length syms.old.symbols) (seen_world heap.old world.now) }
+    requires known { KnowsParts (length syms.old.symbols) (seen_parts heap.old parts.now) }
     requires limits { AreLimits limits.steps limits.depth }
     requires counts { IsWithin progress.old limits.steps }
     ensures grows { Grown syms.old syms.new heap.old heap.new }
     ensures packages { syms.new.packages ≡ syms.old.packages }
     ensures live { E.live engine.new ≡ E.live engine.old }
-    ensures fits { E.fits engine.new world.now }
+    ensures fits { E.fits engine.new heap.new world.now (length syms.new.symbols) }
     ensures counts { IsWithin progress.new limits.steps }
+    ensures known { IfOk result (λ fs. KnowsForms (length syms.new.symbols) (seen_cores heap.new fs.items)) }
+    ensures told { IfErr result IsTold }
     ensures ends { EndsCores heap.new (seen_progress syms.new.symbols progress.new) result (expansion.grown_all (expansion.grown (setting_at heap.old world.now syms.old limits.steps limits.depth) left) (seen_parts heap.old parts.now) [] (seen_progress syms.old.symbols progress.old)) }
 {
     let mut done = Vec::new(alloc);
@@ -146,16 +158,20 @@ pub fn expand<E: Engine>(
     progress: &mut Progress,
     form: Word,
 ) -> Result<Core, Refused>
-    requires fits { E.fits engine.old world.now }
+    requires fits { E.fits engine.old heap.old world.now (length syms.old.symbols) }
     requires world { WorldLies heap.old world.now }
     requires form { Lies heap.old form }
+    requires supplies { KnowsSupplies (length syms.old.symbols) (seen_world heap.old world.now) }
+    requires known { Knows (length syms.old.symbols) (object_of heap.old form) }
     requires limits { AreLimits limits.steps limits.depth }
     requires counts { IsWithin progress.old limits.steps }
     ensures grows { Grown syms.old syms.new heap.old heap.new }
     ensures packages { syms.new.packages ≡ syms.old.packages }
     ensures live { E.live engine.new ≡ E.live engine.old }
-    ensures fits { E.fits engine.new world.now }
+    ensures fits { E.fits engine.new heap.new world.now (length syms.new.symbols) }
     ensures counts { IsWithin progress.new limits.steps }
+    ensures known { IfOk result (λ f. KnowsForm (length syms.new.symbols) (seen_core heap.new f)) }
+    ensures told { IfErr result IsTold }
     ensures ends { EndsCore heap.new (seen_progress syms.new.symbols progress.new) result (expansion.expanded (setting_at heap.old world.now syms.old limits.steps limits.depth) (object_of heap.old form) (seen_progress syms.old.symbols progress.old)) }
 {
     let part = Part::Form(form);

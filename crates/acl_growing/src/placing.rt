@@ -1,15 +1,18 @@
 //! What stands at the place of a part.
 
-ghost use Rattle.std.specs.Prelude.{◌≡◌, ◌≤◌, length, IfOk};
+ghost use Rattle.std.specs.Prelude.{◌≡◌, ◌≤◌, length, IfOk, IfErr};
 ghost use Rattle.acl_base.specs.Limits.{AreLimits};
 ghost use Rattle.model_expansion.specs.Expansion as expansion;
 ghost use Rattle.acl_forms.specs.Forms.{Grown};
 ghost use Rattle.acl_heap.specs.Objects.{Extends};
 ghost use Rattle.acl_layers.specs.Layers.{seen_ready, ready_reach, seen_part, part_reach, PartFits, seen_found, found_reach, FoundFits};
-ghost use Rattle.acl_worlds.specs.Contents.{WorldLies};
+ghost use Rattle.acl_terms.specs.Forms.{seen_core};
+ghost use Rattle.acl_worlds.specs.Contents.{seen_world, WorldLies};
+ghost use Rattle.model_expansion_parts.specs.Known.{KnowsForm, KnowsPart, KnowsFound, KnowsSupplies};
 ghost use Rattle.acl_expand.specs.Looks.{setting_at};
+ghost use Rattle.acl_expand.specs.Refusals.{IsTold};
 ghost use Rattle.acl_expand.specs.Progresses.{seen_progress, IsWithin};
-ghost use Rattle.acl_growing.specs.Ends.{StandsPlaced, EndsPlaced, EndsLeaf};
+ghost use Rattle.acl_growing.specs.Ends.{seen_placed, StandsPlaced, EndsPlaced, EndsLeaf};
 
 use crate::placed::Placed;
 use crate::ready::form_fault;
@@ -24,6 +27,7 @@ use acl_worlds::World;
 use std::alloc::{AllocError, Global};
 
 /// The core form of what is ready, where so many levels are left.
+#[tactic(auto, using(acl_expand::proofs::KnownLemmas::memory_told))]
 fn ready_placed(
     alloc: Global,
     world: &World,
@@ -36,7 +40,10 @@ fn ready_placed(
 ) -> Result<Core, Refused>
     requires world { WorldLies heap.old world.now }
     requires ready { ready_reach ready ≤ length heap.old }
+    requires known { KnowsForm (length syms.now.symbols) (seen_ready heap.old ready) }
     ensures grows { Extends heap.old heap.new }
+    ensures known { IfOk result (λ f. KnowsForm (length syms.now.symbols) (seen_core heap.new f)) }
+    ensures told { IfErr result IsTold }
     ensures ends { EndsLeaf heap.new (seen_progress syms.now.symbols _progress) result (expansion.ready (setting_at heap.old world.now syms.now limits.steps limits.depth) left (seen_ready heap.old ready) (seen_progress syms.now.symbols _progress)) }
 {
     let core = core_of(alloc, heap, ready)?;
@@ -63,7 +70,7 @@ fn placed(alloc: Global, heap: &mut Heap, found: Found) -> Result<Placed, AllocE
 }
 
 /// What stands at the place of a part, where so many levels are left.
-#[tactic(auto, using(acl_forms::specs::Growth::growing))]
+#[tactic(auto, using(acl_forms::specs::Growth::growing, acl_expand::proofs::KnownLemmas::memory_told))]
 pub fn part_found<E: Engine>(
     alloc: Global,
     world: &World,
@@ -75,17 +82,21 @@ pub fn part_found<E: Engine>(
     part: Part,
     left: u32,
 ) -> Result<Placed, Refused>
-    requires fits { E.fits engine.old world.now }
+    requires fits { E.fits engine.old heap.old world.now (length syms.old.symbols) }
     requires world { WorldLies heap.old world.now }
     requires part { part_reach part ≤ length heap.old }
     requires rest { PartFits heap.old part }
+    requires supplies { KnowsSupplies (length syms.old.symbols) (seen_world heap.old world.now) }
+    requires known { KnowsPart (length syms.old.symbols) (seen_part heap.old part) }
     requires limits { AreLimits limits.steps limits.depth }
     requires counts { IsWithin progress.old limits.steps }
     ensures grows { Grown syms.old syms.new heap.old heap.new }
     ensures packages { syms.new.packages ≡ syms.old.packages }
     ensures live { E.live engine.new ≡ E.live engine.old }
-    ensures fits { E.fits engine.new world.now }
+    ensures fits { E.fits engine.new heap.new world.now (length syms.new.symbols) }
     ensures counts { IsWithin progress.new limits.steps }
+    ensures known { IfOk result (λ q. KnowsFound (length syms.new.symbols) (seen_placed heap.new q)) }
+    ensures told { IfErr result IsTold }
     ensures ends { EndsPlaced heap.new (seen_progress syms.new.symbols progress.new) result (expansion.part_found (setting_at heap.old world.now syms.old limits.steps limits.depth) left (seen_part heap.old part) (seen_progress syms.old.symbols progress.old)) }
 {
     match part {

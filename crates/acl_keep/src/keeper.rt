@@ -131,6 +131,11 @@ pub trait Keeper: Drop {
         ensures keeps { (k : Kept) (ls : List Left) → Keeps self.old k ls → length ls < 2 ^ 64 → Keeps self.new (keeping.begin_export k) ls }
         ensures sound { (h : Objects) (w : Content) (n : ℕ) → IsSound self.old h w n → IsSound self.new h w n };
 
+    /// Takes the beginning of an export back inside which nothing was done.
+    fn cancel_export(&mut self)
+        ensures keeps { (k : Kept) (ls : List Left) → Keeps self.old (keeping.begin_export k) ls → Keeps self.new k ls }
+        ensures sound { (h : Objects) (w : Content) (n : ℕ) → IsSound self.old h w n → IsSound self.new h w n };
+
     /// It has ended: what was written stays, and what was remembered last is forgotten.
     fn commit(&mut self)
         ensures keeps { (k : Kept) (left : Left) (ls : List Left) → Keeps self.old k (left ∷ ls) → Keeps self.new (keeping.commit k) ls }

@@ -1,3 +1,2 @@
-mod ScopeLemmas
-mod CallLemmas
-mod KeptLemmas
+mod ReadyLemmas
+mod SoundLemmas

@@ -1,3 +1,3 @@
-pub mod Scopes
-pub mod Keeping
-pub mod Kept
+pub mod Readiness
+pub mod Sound
+pub mod Stays

@@ -1,185 +1,253 @@
 //! The keeper.
 
-ghost use Rattle.std.specs.Prelude.{◌≡◌, ℕ, [], ◌∷◌, ◌++◌, List, IfSome, IfNone, IfOk, OnOk, OnErr};
+ghost use Rattle.std.specs.Prelude.{◌≡◌, ℕ, [], List, length, IfOk, Some, None, option_map};
 ghost use Rattle.model_eval.specs.Outcomes.{Stobjs};
+ghost use Rattle.model_eval.specs.GeneratedCalls.{list_or_none};
 ghost use Rattle.model_eval.specs.ListsKeeping.{lists_keeping};
-ghost use Rattle.model_eval.specs.StobjLayouts.{new_list};
-ghost use Rattle.acl_terms.specs.Forms.{numbers};
-ghost use Rattle.acl_worlds.specs.Contents.{seen_world, WorldLies};
-ghost use Rattle.acl_keep.specs.Seen.{all_seen};
-ghost use Rattle.acl_list_keeper.specs.Kept.{Keeps};
+ghost use Rattle.acl_heap.specs.Objects.{Objects, Extends};
+ghost use Rattle.acl_forms.specs.Forms.{AreWhole};
+ghost use Rattle.acl_terms.specs.Definitions.{seen_generated};
+ghost use Rattle.acl_worlds.specs.Contents.{Content, seen_world};
+ghost use Rattle.acl_keep.specs.Seen.{all_seen, words_in};
+ghost use Rattle.acl_lists.specs.Pairs.{Within};
+ghost use Rattle.acl_list_parts.specs.Parts.{list_given};
+ghost use Rattle.acl_list_scope.specs.Scopes.{scope, AreWithin, number_of};
+ghost use Rattle.acl_list_scope.specs.Kept as kept;
+ghost use Rattle.acl_list_keeper.specs.Readiness.{IsReady};
+ghost use Rattle.acl_list_keeper.specs.Sound as fitting;
+ghost use Rattle.acl_list_keeper.specs.Stays.{sound_later};
 
-use crate::binding::{Binding, Scope};
-use crate::scope;
-use acl_base::SymId;
+use crate::ready::{Ready, apply, ready_of};
+use acl_base::{SymId, Word};
 use acl_heap::Heap;
-use acl_lists::Lists;
+use acl_keep::{Effect, Keeper, Loan};
+use acl_list_calls::done_by;
+use acl_list_scope::{ScopedLists, first_object};
+use acl_lists::ListId;
 use acl_syms::Symbols;
-use acl_terms::Shown;
+use acl_terms::{GeneratedFunction, Shown};
 use acl_worlds::World;
 use std::alloc::{AllocError, Global};
 
-/// Objects in scope as lists in a table.
+/// Objects in scope as lists in a table, and what a call that was prepared will do.
 #[derive(Drop)]
 pub struct ListKeeper {
-    pub(crate) alloc: Global,
-    pub(crate) lists: Lists,
-    /// What is in scope.
-    pub(crate) bindings: Vec<Binding>,
-    /// What calls that are open have left behind.
-    pub(crate) behind: Vec<Scope>,
-}
-
-/// Leaves bindings behind, with others in their place. A refusal changes nothing.
-fn leave_behind(
-    behind: &mut Vec<Scope>,
-    bindings: &mut Vec<Binding>,
-    inner: Vec<Binding>,
-) -> Result<(), AllocError>
-    ensures ok { OnOk result (behind.new.items ≡ behind.old.items ++ record { bindings = bindings.old } ∷ []) }
-    ensures now { OnOk result (bindings.new.items ≡ inner.items) }
-    ensures err { OnErr result (behind.new.items ≡ behind.old.items) }
-    ensures same { OnErr result (bindings.new.items ≡ bindings.old.items) }
-{
-    let outer = std::mem::replace(bindings, inner);
-    match behind.push(Scope { bindings: outer }) {
-        Ok(()) => Ok(()),
-        Err(refused) => {
-            let kept = refused.value;
-            *bindings = kept.bindings;
-            Err(AllocError)
-        }
-    }
-}
-
-/// Takes out what was left behind last.
-fn take_last(behind: &mut Vec<Scope>) -> Option<Scope>
-    ensures some { IfSome result (λ s. behind.old.items ≡ behind.new.items ++ s ∷ []) }
-    ensures none { IfNone result (behind.old.items ≡ []) }
-{
-    behind.pop()
+    pub scoped: ScopedLists,
+    pub ready: Option<Ready>,
 }
 
 impl ListKeeper {
     /// Nothing is in scope, and no call is open. It takes no memory.
     pub fn new(alloc: Global) -> ListKeeper
-        ensures { Keeps result [] [] }
+        ensures keeps { kept.Keeps result.scoped [] [] }
+        ensures sound { (h : Objects) (w : Content) (n : ℕ) → fitting.WorldFits h w n → fitting.IsSound result.scoped result.ready h w n }
     {
         ListKeeper {
-            alloc,
-            lists: Lists::new(alloc),
-            bindings: Vec::new(alloc),
-            behind: Vec::new(alloc),
+            scoped: ScopedLists::new(alloc),
+            ready: None,
+        }
+    }
+}
+
+/// The list that a variable has; without one, the empty list.
+fn list_for(scoped: &ScopedLists, variable: Option<SymId>) -> Option<ListId>
+    ensures within { AreWithin scoped.now.lists scoped.now.bindings.items → Within scoped.now.lists result }
+    ensures is { list_given scoped.now.lists result ≡ list_or_none lists_keeping (scope scoped.now.lists scoped.now.bindings.items) (option_map number_of variable) }
+{
+    match variable {
+        Some(variable) => scoped.list_of(variable),
+        None => None,
+    }
+}
+
+/// Makes a call ready. What is refused may have added cells to the table.
+fn prepared(
+    scoped: &mut ScopedLists,
+    world: &World,
+    heap: &mut Heap,
+    _syms: &Symbols,
+    function: &GeneratedFunction,
+    values: &[Shown],
+) -> Result<Ready, AllocError>
+    requires whole { AreWhole _syms.now heap.old (words_in values.now) }
+    requires sound { fitting.IsSound scoped.old None heap.old world.now (length _syms.now.symbols) }
+    ensures keeps { (k : Stobjs ℕ) (ls : List (Stobjs ℕ)) → kept.Keeps scoped.old k ls → kept.Keeps scoped.new k ls }
+    ensures heap { Extends heap.old heap.new }
+    ensures ready { IfOk result (λ r. IsReady scoped.new (Some r) heap.new (record { world = seen_world heap.new world.now; function = seen_generated function.now; values = all_seen heap.new values.now })) }
+    ensures fits { IfOk result (λ r. fitting.ReadyFits scoped.new.lists heap.new (length _syms.now.symbols) (Some r)) }
+{
+    let variable = first_object(values);
+    let list = list_for(scoped, variable);
+    let done = done_by(
+        scoped.alloc,
+        &mut scoped.lists,
+        world,
+        heap,
+        function,
+        values,
+        list,
+    )?;
+    Ok(ready_of(done, variable))
+}
+
+impl Keeper for ListKeeper {
+    ghost Kept = { Stobjs ℕ };
+
+    ghost Left = { Stobjs ℕ };
+
+    ghost keeping = { lists_keeping };
+
+    ghost Keeps = { λ s k ls. kept.Keeps s.scoped k ls };
+
+    ghost IsSound = { λ s h w n. fitting.IsSound s.scoped s.ready h w n };
+
+    ghost MayCall = { λ c k ls. Unit {0} };
+
+    ghost MayReach = { λ parent field k ls. Unit {0} };
+
+    ghost MayLend = { λ loans k ls. Unit {0} };
+
+    ghost MayMake = { λ w x k ls. Unit {0} };
+
+    ghost MayUnmake = { λ k ls. Unit {0} };
+
+    ghost MayAbandon = { λ k ls. Unit {0} };
+
+    ghost IsPrepared = { λ s h c. IsReady s.scoped s.ready h c };
+
+    fn prepare(
+        &mut self,
+        world: &World,
+        heap: &mut Heap,
+        syms: &Symbols,
+        function: &GeneratedFunction,
+        values: &[Shown],
+    ) -> Result<(), AllocError> {
+        self.ready = None;
+        let ready = prepared(&mut self.scoped, world, heap, syms, function, values)?;
+        self.ready = Some(ready);
+        Ok(())
+    }
+
+    fn call(
+        &mut self,
+        _world: &World,
+        _heap: &Heap,
+        _syms: &Symbols,
+        _function: &GeneratedFunction,
+        _values: &[Shown],
+    ) -> Effect {
+        match self.ready {
+            Some(ready) => {
+                apply(&mut self.scoped, ready.change);
+                self.ready = None;
+                ready.effect
+            }
+            None => Effect::Refuses,
         }
     }
 
-    /// Hands the objects among the actuals over to a call, by the names of its formals. What is in scope stays behind.
-    pub fn hand_over(
+    fn hand_over(
         &mut self,
-        _heap: &Heap,
+        heap: &Heap,
         formals: &[SymId],
         actuals: &[Shown],
-    ) -> Result<(), AllocError>
-        ensures ok { OnOk result ((k : Stobjs ℕ) (ls : List (Stobjs ℕ)) → Keeps self.old k ls → Keeps self.new (lists_keeping.hand_over (numbers formals.now) (all_seen _heap.now actuals.now) k) (lists_keeping.behind k ∷ ls)) }
-        ensures err { OnErr result ((k : Stobjs ℕ) (ls : List (Stobjs ℕ)) → Keeps self.old k ls → Keeps self.new k ls) }
-    {
-        let inner = scope::handed_over(self.alloc, self.bindings.as_slice(), formals, actuals)?;
-        match leave_behind(&mut self.behind, &mut self.bindings, inner) {
+    ) -> Result<(), AllocError> {
+        self.ready = None;
+        match self.scoped.hand_over(heap, formals, actuals) {
             Ok(()) => Ok(()),
             Err(refused) => Err(refused),
         }
     }
 
-    /// Leaves a call: what it left behind is in scope again.
-    pub fn hand_back(&mut self, _heap: &Heap, formals: &[SymId], actuals: &[Shown])
-        ensures { (k : Stobjs ℕ) (left : Stobjs ℕ) (ls : List (Stobjs ℕ)) → Keeps self.old k (left ∷ ls) → Keeps self.new (lists_keeping.hand_back (numbers formals.now) (all_seen _heap.now actuals.now) k left) ls }
-    {
-        match take_last(&mut self.behind) {
-            Some(outer) => {
-                scope::give_back(&mut self.bindings, outer.bindings, formals, actuals);
-            }
-            None => {}
-        }
+    fn hand_back(&mut self, heap: &Heap, formals: &[SymId], actuals: &[Shown]) {
+        self.ready = None;
+        self.scoped.hand_back(heap, formals, actuals);
     }
 
-    /// Remembers what is in scope at the call of an export.
-    pub fn remember(&mut self) -> Result<(), AllocError>
-        ensures ok { OnOk result ((k : Stobjs ℕ) (ls : List (Stobjs ℕ)) → Keeps self.old k ls → Keeps self.new k (lists_keeping.behind k ∷ ls)) }
-        ensures err { OnErr result ((k : Stobjs ℕ) (ls : List (Stobjs ℕ)) → Keeps self.old k ls → Keeps self.new k ls) }
-    {
-        let inner = scope::copied(self.alloc, self.bindings.as_slice())?;
-        match leave_behind(&mut self.behind, &mut self.bindings, inner) {
+    fn remember(&mut self) -> Result<(), AllocError> {
+        self.ready = None;
+        match self.scoped.remember() {
             Ok(()) => Ok(()),
             Err(refused) => Err(refused),
         }
     }
 
-    /// Forgets what was remembered last.
-    pub fn forget(&mut self)
-        ensures { (k : Stobjs ℕ) (left : Stobjs ℕ) (ls : List (Stobjs ℕ)) → Keeps self.old k (left ∷ ls) → Keeps self.new k ls }
-    {
-        match take_last(&mut self.behind) {
-            Some(_before) => {}
-            None => {}
+    fn forget(&mut self) {
+        self.ready = None;
+        self.scoped.forget();
+    }
+
+    fn begin_export(&mut self) {
+        self.ready = None;
+        self.scoped.begin_export();
+    }
+
+    fn cancel_export(&mut self) {
+        self.ready = None;
+        self.scoped.cancel_export();
+    }
+
+    fn commit(&mut self) {
+        self.ready = None;
+        self.scoped.commit();
+    }
+
+    fn abandon(&mut self, heap: &Heap, actuals: &[Shown]) {
+        self.ready = None;
+        self.scoped.abandon(heap, actuals);
+    }
+
+    fn is_reached(
+        &self,
+        heap: &Heap,
+        syms: &Symbols,
+        parent: SymId,
+        field: u32,
+        index: Option<Word>,
+    ) -> bool {
+        self.scoped.is_reached(heap, syms, parent, field, index)
+    }
+
+    fn lend(&mut self, heap: &Heap, syms: &Symbols, loans: &[Loan]) -> Result<(), AllocError> {
+        self.ready = None;
+        match self.scoped.lend(heap, syms, loans) {
+            Ok(()) => Ok(()),
+            Err(refused) => Err(refused),
         }
     }
 
-    /// The function begins that does the work of an export.
-    pub fn begin_export(&mut self)
-        ensures { (k : Stobjs ℕ) (ls : List (Stobjs ℕ)) → Keeps self.old k ls → Keeps self.new (lists_keeping.begin_export k) ls }
-    {
-        let _ = &self.alloc;
-    }
-
-    /// It has ended: what was written stays, and what was remembered last is forgotten.
-    pub fn commit(&mut self)
-        ensures { (k : Stobjs ℕ) (left : Stobjs ℕ) (ls : List (Stobjs ℕ)) → Keeps self.old k (left ∷ ls) → Keeps self.new (lists_keeping.commit k) ls }
-    {
-        self.forget();
-    }
-
-    /// It has stopped: the object of the export, of whose call these are the actuals, is as it was when that was remembered.
-    pub fn abandon(&mut self, _heap: &Heap, actuals: &[Shown])
-        ensures { (k : Stobjs ℕ) (left : Stobjs ℕ) (ls : List (Stobjs ℕ)) → Keeps self.old k (left ∷ ls) → Keeps self.new (lists_keeping.abandon (all_seen _heap.now actuals.now) left k) ls }
-    {
-        match take_last(&mut self.behind) {
-            Some(before) => {
-                scope::restore(&mut self.bindings, before.bindings.as_slice(), actuals);
-            }
-            None => {}
+    fn put(&mut self, heap: &Heap, syms: &Symbols, loan: Loan) -> Result<(), AllocError> {
+        self.ready = None;
+        match self.scoped.put(heap, syms, loan) {
+            Ok(()) => Ok(()),
+            Err(refused) => Err(refused),
         }
     }
 
-    /// Takes the objects that were lent last out of the scope, so many.
-    pub fn end_loans(&mut self, n: usize)
-        ensures { (k : Stobjs ℕ) (ls : List (Stobjs ℕ)) → Keeps self.old k ls → Keeps self.new (lists_keeping.end_loans n k) ls }
-    {
-        scope::take_away(&mut self.bindings, n);
+    fn end_loans(&mut self, n: usize) {
+        self.ready = None;
+        self.scoped.end_loans(n);
     }
 
-    /// Takes the local object away that was made last.
-    pub fn unmake(&mut self)
-        ensures { (k : Stobjs ℕ) (ls : List (Stobjs ℕ)) → Keeps self.old k ls → Keeps self.new (lists_keeping.unmake k) ls }
-    {
-        scope::take_away(&mut self.bindings, 1);
-    }
-
-    /// Makes a local object, as it begins.
-    pub fn make(
+    fn make(
         &mut self,
         world: &World,
         heap: &Heap,
-        _syms: &Symbols,
+        syms: &Symbols,
         stobj: SymId,
-    ) -> Result<(), AllocError>
-        requires { WorldLies heap.now world.now }
-        ensures ok { OnOk result ((k : Stobjs ℕ) (ls : List (Stobjs ℕ)) → Keeps self.old k ls → Keeps self.new (lists_keeping.make stobj.0 (new_list (seen_world heap.now world.now) stobj.0) k) ls) }
-        ensures err { OnErr result ((k : Stobjs ℕ) (ls : List (Stobjs ℕ)) → Keeps self.old k ls → Keeps self.new k ls) }
-    {
-        let n = acl_new_lists::new_list(self.alloc, &mut self.lists, world, heap, stobj)?;
-        match scope::bind(&mut self.bindings, stobj, Some(n)) {
+    ) -> Result<(), AllocError> {
+        self.ready = None;
+        match self.scoped.make(world, heap, syms, stobj) {
             Ok(()) => Ok(()),
             Err(refused) => Err(refused),
         }
     }
+
+    fn unmake(&mut self) {
+        self.ready = None;
+        self.scoped.unmake();
+    }
+
+    ghost stays_sound = { λ s h h' w n n' e l i. sound_later s.scoped s.ready h h' w n n' e l i };
 }

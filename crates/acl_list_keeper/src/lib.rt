@@ -1,9 +1,8 @@
-//! Objects in scope kept as lists in a table.
+//! The keeper of lists: objects in scope as lists in a table.
 #![tactic(auto)]
 
-mod binding;
 mod keeper;
-mod scope;
+mod ready;
 
-pub use binding::Binding;
 pub use keeper::ListKeeper;
+pub use ready::{Change, Ready};

@@ -12,3 +12,4 @@ pub mod SoundLemmas
 pub mod ActualLemmas
 pub mod StaysLemmas
 pub mod WholeLemmas
+pub mod ConstantLemmas

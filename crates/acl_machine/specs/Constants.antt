@@ -1,5 +1,5 @@
 -- That the words of a table of terms lie in a heap, and their symbols are known.
-use Rattle.std.specs.Prelude.{◌≡◌, ℕ, List, [], ◌∷◌, Option, Some, None, slice_get}
+use Rattle.std.specs.Prelude.{◌≡◌, ℕ, List, [], ◌∷◌, length, Option, Some, None, slice_get}
 use Rattle.model_symbols.specs.Symbols.{Table}
 use Rattle.acl_heap.specs.Objects.{Objects}
 use Rattle.acl_forms.specs.Forms.{IsWhole}
@@ -8,6 +8,8 @@ use Rattle.acl_code.specs.declared.term.Operand.TheVariants as operand
 use Rattle.acl_code.specs.declared.term.Child.{Child}
 use Rattle.acl_code.specs.declared.term.Term.{Term}
 use Rattle.acl_code.specs.declared.term.Term.TheVariants as term
+use Rattle.acl_code.specs.Tables.{TermsLie}
+use Rattle.acl_code.specs.Constants.{ConstantsAreKnown}
 
 abbrev pub IndexIsWhole : Table → Objects → Option Operand → Type 0
 IndexIsWhole t h None = Unit {0}
@@ -35,3 +37,7 @@ TermIsWhole t h (term.Call at function actuals) = Unit {0}
 -- those of all terms
 pub record ConstantsAreWhole (t : Table) (h : Objects) (terms : List Term) : Type 0 where
   pub whole : (n : ℕ) (x : Term) → slice_get terms n ≡ Some x → TermIsWhole t h x
+
+-- those that lie in a heap, and whose symbols are known, are whole
+pub record KnownAreWhole : Type 0 where
+  pub whole : (t : Table) (h : Objects) (terms : List Term) → TermsLie h terms → ConstantsAreKnown (length t.symbols) h terms → ConstantsAreWhole t h terms

@@ -112,8 +112,8 @@ impl Machine {
         Ok(())
     }
 
-    /// A primitive gave a value.
-    fn give_result(&mut self, base: u64, word: Word, limit: u64) -> Result<(), AllocError>
+    /// A call gave a value, and is counted.
+    pub fn give_result(&mut self, base: u64, word: Word, limit: u64) -> Result<(), AllocError>
         requires { self.old.calls < limit }
         ensures { OnOk result (self.new ≡ giving (Shown.Value word ∷ []) (counted (replaced (step.Last None) base self.old))) }
     {
@@ -126,8 +126,14 @@ impl Machine {
         Ok(())
     }
 
-    /// A call stops with the actuals.
-    fn stop_call(&mut self, base: u64, count: u64, why: Halt, limit: u64) -> Result<(), AllocError>
+    /// A call stops with the actuals, and is counted.
+    pub fn stop_call(
+        &mut self,
+        base: u64,
+        count: u64,
+        why: Halt,
+        limit: u64,
+    ) -> Result<(), AllocError>
         requires { self.old.calls < limit }
         ensures { OnOk result (self.new ≡ stopped why (counted (holding (cells_from self.old.values base count) (replaced (step.Last None) base self.old)))) }
     {
@@ -172,6 +178,7 @@ impl Machine {
         ensures turns { OnOk result (Turns K.keeping (around heap.old _world.now _terms.now syms.old limit) (around heap.new _world.now _terms.now syms.new limit) self.old self.new) }
         ensures sound { OnOk result (IsSound syms.new heap.new self.new) }
         ensures grows { Grown syms.old syms.new heap.old heap.new }
+        ensures packages { syms.new.packages ≡ syms.old.packages }
     {
         worlds_are_seen();
         let base = slot_in(frame.base, at)?;

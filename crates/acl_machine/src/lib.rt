@@ -6,6 +6,7 @@ mod begin;
 mod calls;
 mod close;
 mod frame;
+mod laws;
 mod lending;
 mod machine;
 mod resume;
@@ -14,6 +15,7 @@ mod values;
 pub mod words;
 
 pub use frame::{Borrowed, Control, Frame, Goal, Halt, Inside, Step, Turn};
+pub use laws::known_constants_are_whole;
 pub use machine::{Machine, whole};
 pub use resume::{is_false, slot_in};
 pub use stack::Stack;

@@ -1,6 +1,6 @@
 //! The open forms.
 
-ghost use Rattle.std.specs.Prelude.{◌≡◌, ◌≢◌, ◌<◌, ◌^◌, true, false, ◌∷◌, [], length, reverse, OnOk, OnErr, MatchOption};
+ghost use Rattle.std.specs.Prelude.{◌≡◌, ◌≢◌, ◌≤◌, ◌<◌, ◌^◌, true, false, ◌∷◌, [], length, reverse, OnOk, OnErr, MatchOption};
 ghost use Rattle.acl_machine.specs.Turns.{IsFirst, with_step, with_frame};
 
 use crate::frame::{Frame, Step};
@@ -93,7 +93,8 @@ impl Stack {
     /// Whether so few forms are open that twice their number is one of 64 bits.
     #[tactic(auto, using(crate::proofs::StackLemmas::few_reversed))]
     pub fn is_shallow(&self) -> bool
-        ensures { result ≡ true → length self.now < 2 ^ 63 }
+        ensures few { result ≡ true → length self.now < 2 ^ 63 }
+        ensures many { result ≡ false → 2 ^ 63 ≤ length self.now }
     {
         self.frames.len() < 0x8000_0000_0000_0000
     }

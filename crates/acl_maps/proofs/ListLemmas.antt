@@ -65,25 +65,25 @@ copy_ends {all} {left} {start} {h} {ws} c e = sym (append-nil (pairs_in h ws)) �
 
 -- ---- what each key finds
 
-rest_distinct : (k : Object ℕ) (o : Option OwnedEntry) (ps : Places) → IsDistinct same_key (keys_of ((k, o) ∷ ps)) → IsDistinct same_key (keys_of ps)
+pub rest_distinct : (k : Object ℕ) (o : Option OwnedEntry) (ps : Places) → IsDistinct same_key (keys_of ((k, o) ∷ ps)) → IsDistinct same_key (keys_of ps)
 unfolding IsDistinct
 rest_distinct k o ps d = d.1
 
-gone : (k : Object ℕ) (o : Option OwnedEntry) (ps : Places) → IsDistinct same_key (keys_of ((k, o) ∷ ps)) → place_at ps k ≡ None
+pub gone : (k : Object ℕ) (o : Option OwnedEntry) (ps : Places) → IsDistinct same_key (keys_of ((k, o) ∷ ps)) → place_at ps k ≡ None
 gone k o ps d = lookup-none (same_key k) ps (none_past_head same_equiv k (k, o) ps d (same_itself k))
 
 -- the first entry has its key, and the others have theirs
-first_keyed : (k : Object ℕ) (o : Option OwnedEntry) (ps : Places) → AreKeyed ((k, o) ∷ ps) → HasKey k (Some o)
+pub first_keyed : (k : Object ℕ) (o : Option OwnedEntry) (ps : Places) → AreKeyed ((k, o) ∷ ps) → HasKey k (Some o)
 first_keyed k o ps a = subst (HasKey k) (ap (λ (b : Bool). cond b (Some o) (place_at ps k)) (same_itself k)) (a.each k)
 
-rest_keyed : (k : Object ℕ) (o : Option OwnedEntry) (ps : Places) → IsDistinct same_key (keys_of ((k, o) ∷ ps)) → AreKeyed ((k, o) ∷ ps) → AreKeyed ps
+pub rest_keyed : (k : Object ℕ) (o : Option OwnedEntry) (ps : Places) → IsDistinct same_key (keys_of ((k, o) ∷ ps)) → AreKeyed ((k, o) ∷ ps) → AreKeyed ps
 rest_keyed k o ps d a = record { each = λ q. go q (same_key q k) refl (a.each q) }
   where
     go : (q : Object ℕ) (b : Bool) → same_key q k ≡ b → HasKey q (cond (same_key q k) (Some o) (place_at ps q)) → HasKey q (place_at ps q)
     go q true e h = subst (HasKey q) (sym (ap (place_at ps) (same_tells q k e) ∙ gone k o ps d)) tt
     go q false e h = subst (HasKey q) (ap (λ (b : Bool). cond b (Some o) (place_at ps q)) e) h
 
-listed_finds : (ps : Places) → IsDistinct same_key (keys_of ps) → AreKeyed ps → (q : Object ℕ) → value_at by_number q (listed ps) ≡ value_of (place_at ps q)
+pub listed_finds : (ps : Places) → IsDistinct same_key (keys_of ps) → AreKeyed ps → (q : Object ℕ) → value_at by_number q (listed ps) ≡ value_of (place_at ps q)
 listed_finds [] d a q = refl
 listed_finds ((k, None) ∷ ps) d a q = go (same_key q k) refl (listed_finds ps (rest_distinct k None ps d) (rest_keyed k None ps d a) q)
   where

@@ -1,2 +1,3 @@
 pub mod Cells
 pub mod Listing
+pub mod Held

@@ -1,5 +1,6 @@
 //! A key with its value.
-ghost use Rattle.std.specs.Prelude.{◌≡◌, IfOk};
+ghost use Rattle.std.specs.Prelude.{◌≡◌, ◌+◌, IfOk};
+ghost use Rattle.model_objects.specs.Object.{cells};
 ghost use Rattle.acl_heap.specs.Objects.{object_of, Lies};
 
 use acl_base::Word;
@@ -30,5 +31,11 @@ impl OwnedEntry {
         let key = OwnedObject::put(alloc, heap, key)?;
         let value = OwnedObject::put(alloc, heap, value)?;
         Ok(OwnedEntry { key, value })
+    }
+    /// How many cells the key and the value take.
+    pub fn cells(&self) -> u64
+        ensures { result ≡ cells self.now.key + cells self.now.value }
+    {
+        self.key.cells() + self.value.cells()
     }
 }

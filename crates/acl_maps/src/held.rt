@@ -1,4 +1,8 @@
 //! What stood at a key.
+ghost use Rattle.std.specs.Prelude.{◌≡◌};
+ghost use Rattle.acl_maps.specs.Held.{place_cells};
+
+use crate::counting::cells_of;
 use crate::entry::OwnedEntry;
 use acl_hash::Key;
 use std::marker::Model;
@@ -27,4 +31,14 @@ impl Model for HeldPlace {
     ghost view = { λ h. (h.key, option_map cell h.place) };
 
     ghost invariant = { λ h. HasKey h.key h.place };
+}
+
+impl HeldPlace {
+    /// How many cells the key and its value take, where it had one.
+    #[tactic(auto, using(crate::proofs::HeldLemmas::place_held))]
+    pub fn cells(&self) -> u64
+        ensures { result ≡ place_cells self.now }
+    {
+        cells_of(&self.place)
+    }
 }

@@ -1,6 +1,7 @@
 //! Maps from objects to objects, which own what they hold.
 #![tactic(auto)]
 
+mod counting;
 mod entry;
 mod held;
 mod listing;

@@ -1,12 +1,15 @@
 //! `ObjectMap`.
-ghost use Rattle.std.specs.Prelude.{◌≡◌, [], Some, None, IfOk, OnOk, OnErr};
+ghost use Rattle.std.specs.Prelude.{◌≡◌, ◌+◌, [], Some, None, IfOk, OnOk, OnErr};
 ghost use Rattle.model_prims.specs.Kinds.{by_number};
 ghost use Rattle.model_lists.specs.Lists.{value_at};
 ghost use Rattle.acl_heap.specs.Objects.{Extends};
 ghost use Rattle.acl_hash.specs.Sorting.{KnowsPairs};
+ghost use Rattle.acl_owned.specs.Owned.{IsSum};
+ghost use Rattle.acl_maps.specs.Held.{cells_held, entry_cells};
 ghost use Rattle.acl_maps.specs.Listing.{IsListing};
 ghost use Rattle.acl_maps.specs.Cells.{full, with_cell, emptied, found_in, pairs_in, count_in, value_of, one_of as ones, Finds, IsSuited};
 
+use crate::counting::{cells_of, count_entries};
 use crate::entry::OwnedEntry;
 use crate::held::HeldPlace;
 use crate::listing::list_pairs;
@@ -124,11 +127,12 @@ impl ObjectMap {
         Ok(HeldPlace { key: noted, place })
     }
 
-    /// Puts what stood at a key back. It takes no memory.
-    #[tactic(auto, using(crate::proofs::CellLemmas::cells_changed, crate::proofs::CellLemmas::keyed_changed, crate::proofs::CountLemmas::count_changed, crate::proofs::CountLemmas::few_counted, crate::proofs::CellLemmas::place_there))]
-    pub fn back(&mut self, held: HeldPlace)
+    /// Puts what stood at a key back, and tells how many cells what stands there takes, which ends. It takes no memory.
+    #[tactic(auto, using(crate::proofs::CellLemmas::cells_changed, crate::proofs::CellLemmas::keyed_changed, crate::proofs::CountLemmas::count_changed, crate::proofs::CountLemmas::few_counted, crate::proofs::CellLemmas::place_there, crate::proofs::HeldLemmas::found_held))]
+    pub fn back(&mut self, held: HeldPlace) -> u64
         requires { IsSuited held self.old }
-        ensures { self.new ≡ with_cell held.0 held.1 self.old }
+        ensures back { self.new ≡ with_cell held.0 held.1 self.old }
+        ensures gone { result ≡ entry_cells held.0 (found_in held.0 self.old) }
     {
         let HeldPlace { key, place } = held;
         let more = one_of(&place);
@@ -137,15 +141,18 @@ impl ObjectMap {
             None => remove_at(&mut self.places, &key),
         };
         self.full = self.full + more - one_of(&old);
+        cells_of(&old)
     }
 
-    /// Takes the key and its value away. It takes no memory.
-    #[tactic(auto, using(crate::proofs::CellLemmas::cells_changed, crate::proofs::CellLemmas::keyed_changed, crate::proofs::CountLemmas::count_changed, crate::proofs::CountLemmas::few_counted))]
-    pub fn remove(&mut self, k: &Key)
-        ensures { self.new ≡ with_cell k.now None self.old }
+    /// Takes the key and its value away, and tells how many cells they took. It takes no memory.
+    #[tactic(auto, using(crate::proofs::CellLemmas::cells_changed, crate::proofs::CellLemmas::keyed_changed, crate::proofs::CountLemmas::count_changed, crate::proofs::CountLemmas::few_counted, crate::proofs::HeldLemmas::found_held))]
+    pub fn remove(&mut self, k: &Key) -> u64
+        ensures removed { self.new ≡ with_cell k.now None self.old }
+        ensures gone { result ≡ entry_cells k.now (found_in k.now self.old) }
     {
         let old = remove_at(&mut self.places, k);
         self.full -= one_of(&old);
+        cells_of(&old)
     }
 
     /// Takes all keys and values away. It takes no memory.
@@ -155,6 +162,14 @@ impl ObjectMap {
     {
         self.places.clear();
         self.full = 0;
+    }
+
+    /// How many cells all keys and values take beside so many others, where all are fewer than 2^64. It looks at each key.
+    #[tactic(auto, using(crate::proofs::HeldLemmas::held_listed))]
+    pub fn counted(&self, start: u64) -> Option<u64>
+        ensures { IsSum result (start + cells_held self.now) }
+    {
+        count_entries(&self.places, start)
     }
 
     /// How many keys have a value. It takes no memory.

@@ -1,5 +1,8 @@
 //! Arrays of objects.
-ghost use Rattle.std.specs.Prelude.{◌≡◌, ◌-◌, ◌<◌, ◌≤◌, ◌⊎◌, ◌++◌, length, replicate, take, slice_index_or, slice_set, IfOk, OnOk, OnErr};
+ghost use Rattle.std.specs.Prelude.{◌≡◌, ◌+◌, ◌-◌, ◌<◌, ◌≤◌, ◌⊎◌, ◌++◌, length, replicate, take, slice_index_or, slice_set, IfOk, OnOk, OnErr};
+ghost use Rattle.std.specs.List.{sum_by};
+ghost use Rattle.model_objects.specs.Object.{cells};
+ghost use Rattle.acl_owned.specs.Owned.{IsSum};
 ghost use Rattle.acl_heap.specs.Objects.{object_of, nothing, Lies, Denotes, Extends};
 
 use crate::OwnedObject;
@@ -53,6 +56,21 @@ fn first_copies(
     Ok(copies)
 }
 
+// The cells of all elements, beside so many others.
+#[tactic(auto, using(crate::proofs::CountLemmas::count_step, crate::proofs::CountLemmas::count_over, crate::proofs::CountLemmas::count_end))]
+fn count_cells(elements: &Vec<OwnedObject>, start: u64) -> Option<u64>
+    ensures { IsSum result (start + sum_by cells elements.now.items) }
+{
+    let mut total = start;
+    for i in 0..elements.len() {
+        match total.checked_add(elements[i].cells()) {
+            Some(sum) => total = sum,
+            None => return None,
+        }
+    }
+    Some(total)
+}
+
 fn shorter(a: usize, b: usize) -> usize
     ensures first { result ≤ a }
     ensures second { result ≤ b }
@@ -85,6 +103,13 @@ impl ObjectArray {
         ensures ok { IfOk result (λ w. Denotes heap.new w (slice_index_or self.now.elements.items index nothing)) }
     {
         self.elements[index].copy_out(heap)
+    }
+
+    /// How many cells it holds beside so many others, where all are fewer than 2^64.
+    pub fn counted(&self, start: u64) -> Option<u64>
+        ensures { IsSum result (start + sum_by cells self.now.elements.items) }
+    {
+        count_cells(&self.elements, start)
     }
 
     /// Another element in place of one, which is handed out.

@@ -1,7 +1,8 @@
 //! Objects that their places own.
 #![tactic(auto)]
 
-ghost use Rattle.std.specs.Prelude.{◌≡◌, IfOk};
+ghost use Rattle.std.specs.Prelude.{◌≡◌, ◌≤◌, IfOk};
+ghost use Rattle.model_objects.specs.Object.{cells, max_weight};
 ghost use Rattle.acl_heap.specs.Objects.{object_of, Lies, Denotes, Extends};
 
 mod array;
@@ -26,7 +27,8 @@ impl Model for OwnedObject {
     ghost use Rattle.std.specs.Prelude.{ℕ};
     ghost use Rattle.model_objects.specs.Object.{Object};
     ghost use Rattle.model_objects.specs.Stored.{object_code};
-    ghost use Rattle.acl_pool.specs.Roots.{IsLive, object_at};
+    ghost use Rattle.acl_pool.specs.Roots.{object_at};
+    ghost use Rattle.acl_owned.specs.Owned.{Owns};
 
     ghost Value = { Object ℕ };
 
@@ -34,7 +36,7 @@ impl Model for OwnedObject {
 
     ghost view = { λ o. object_at o.pool o.root };
 
-    ghost invariant = { λ o. IsLive o.pool o.root };
+    ghost invariant = { λ o. Owns o.pool o.root };
 }
 
 impl OwnedObject {
@@ -43,9 +45,18 @@ impl OwnedObject {
         requires { Lies heap.now w }
         ensures { IfOk result (λ o. o ≡ object_of heap.now w) }
     {
+        let _count = heap.cells(w);
         let mut pool = Pool::new(alloc);
         let root = pool.put(heap, w)?;
         Ok(OwnedObject { pool, root })
+    }
+
+    /// How many cells it takes.
+    pub fn cells(&self) -> u64
+        ensures is { result ≡ cells self.now }
+        ensures most { result ≤ max_weight }
+    {
+        self.root.cells()
     }
 
     /// Makes a copy of it in the heap.

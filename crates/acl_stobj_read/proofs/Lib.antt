@@ -1,5 +1,4 @@
 pub mod KeyLemmas
-pub mod FieldLemmas
 pub mod WorldLemmas
 pub mod ListLemmas
 pub mod ReadingLemmas

@@ -12,7 +12,10 @@ use Rattle.model_expansion.specs.TypeTerms.{accepted_type}
 use Rattle.model_stobjs.specs.Descriptors.{WrittenField, natural_in, constant_in, length_of, length_in, up_to, most_children, nested_stobj, initial_value, array_shape, listed_shape, other_shape, shape_of}
 use Rattle.acl_stobj_read.specs.Lists.{two_or_three}
 use Rattle.acl_stobj_read.specs.Shapes.{only}
-use Rattle.acl_stobj_read.proofs.FieldLemmas.{keys_given, none_given}
+
+pub none_given : {A : Type 0} (y : Option A) → is_some y ≡ false → y ≡ None
+none_given None e = refl
+none_given (Some x) e = cc
 
 -- ---- numbers
 

@@ -2,4 +2,4 @@ pub mod Keys
 pub mod Written
 pub mod Lists
 pub mod Shapes
-pub mod Refusals
+pub mod Nesting

@@ -5,16 +5,14 @@ use Rattle.model_terms.specs.Worlds as worlds
 use Rattle.model_stobjs.specs.Descriptors as written
 use Rattle.acl_base.specs.declared.SymId.{SymId}
 use Rattle.acl_base.specs.declared.Word.{Word}
-use Rattle.acl_heap.specs.Objects.{Objects, object_of, Lies, reach}
+use Rattle.acl_heap.specs.Objects.{Objects, object_of, reach}
 use Rattle.acl_terms.specs.Forms.{most}
 use Rattle.acl_terms.specs.Signatures.{seen_name}
 use Rattle.acl_terms.specs.declared.stobj.Shape.{Shape}
 use Rattle.acl_terms.specs.Definitions.{seen_shape, shape_reach}
-use Rattle.acl_layers.specs.Lists.{items_along, option_reach}
+use Rattle.acl_layers.specs.Lists.{option_reach}
 use Rattle.acl_stobj_read.specs.declared.written.WrittenField.{WrittenField}
 use Rattle.acl_stobj_read.specs.declared.written.WrittenStobj.{WrittenStobj}
-use Rattle.acl_stobj_read.specs.declared.written.ShapedField.{ShapedField}
-use Rattle.acl_stobj_read.specs.declared.written.ReadStobj.{ReadStobj}
 
 abbrev pub seen_written : Objects → WrittenField → written.WrittenField
 seen_written h f = record { name = f.name.0; type = object_of h f.spec; initial = option_map (object_of h) f.initial; resizable = f.resizable }
@@ -27,15 +25,6 @@ seen_fields h fs = map (seen_written h) fs
 
 abbrev pub fields_reach : List WrittenField → ℕ
 fields_reach fs = most (map written_reach fs)
-
-abbrev pub SeenField : Objects → Option WrittenField → Option written.WrittenField → Type 0
-SeenField h None o = o ≡ None
-SeenField h (Some f) o = (o ≡ Some (seen_written h f)) × (written_reach f ≤ length h)
-
--- fields, and the list of what stands behind them
-abbrev pub SeenFields : Objects → Option (List WrittenField × Word) → Option (List written.WrittenField) → List (Object ℕ) → Type 0
-SeenFields h None o rest = o ≡ None
-SeenFields h (Some p) o rest = (o ≡ Some (seen_fields h p.0)) × (fields_reach p.0 ≤ length h) × Lies h p.1 × (items_along (object_of h p.1) ≡ rest)
 
 abbrev pub seen_pair : SymId × SymId → ℕ × ℕ
 seen_pair p = (p.0.0, p.1.0)
@@ -62,10 +51,6 @@ seen_stobj h s = record { name = object_of h s.name; fields = seen_fields h s.fi
 abbrev pub stobj_reach : WrittenStobj → ℕ
 stobj_reach s = max (reach s.name) (fields_reach s.fields)
 
-abbrev pub SeenStobj : Objects → Option WrittenStobj → Option written.WrittenStobj → Type 0
-SeenStobj h None o = o ≡ None
-SeenStobj h (Some s) o = (o ≡ Some (seen_stobj h s)) × (stobj_reach s ≤ length h)
-
 abbrev pub SeenShape : Objects → Option Shape → Option worlds.Shape → Type 0
 SeenShape h None o = o ≡ None
 SeenShape h (Some s) o = (o ≡ Some (seen_shape h s)) × (shape_reach s ≤ length h)
@@ -76,22 +61,3 @@ field_names fs = map (λ (f : WrittenField). Symbol f.name.0) fs
 
 abbrev pub renamed_names : List (SymId × SymId) → List (Object ℕ)
 renamed_names ps = map (λ (p : SymId × SymId). Symbol p.1.0) ps
-
--- fields whose shapes are those of their types
-abbrev pub AreShaped : worlds.World → Objects → List ShapedField → Type 0
-AreShaped w h fs = map (λ (f : ShapedField). written.shape_of w (seen_written h f.written)) fs ≡ map (λ (f : ShapedField). Some (seen_shape h f.shape)) fs
-
-abbrev pub written_of : List ShapedField → List WrittenField
-written_of fs = map (λ (f : ShapedField). f.written) fs
-
-abbrev pub seen_shaped : Objects → List ShapedField → List (ℕ × worlds.Shape)
-seen_shaped h fs = map (λ (f : ShapedField). (f.written.name.0, seen_shape h f.shape)) fs
-
-abbrev pub shapes_reach : List ShapedField → ℕ
-shapes_reach fs = most (map (λ (f : ShapedField). shape_reach f.shape) fs)
-
--- a stobj that was read, and its fields with their shapes
-abbrev pub IsRead : worlds.World → Objects → ReadStobj → Option written.WrittenStobj → Type 0
-IsRead w h r o =
-    (o ≡ Some (seen_stobj h r.written)) × (written.shaped_fields w (seen_fields h r.written.fields) ≡ seen_shaped h r.fields)
-    × (stobj_reach r.written ≤ length h) × (shapes_reach r.fields ≤ length h)

@@ -1,15 +1,13 @@
-//! The definition of a stobj as it is written.
+//! What the keys of a stobj say.
 
-ghost use Rattle.std.specs.Prelude.{◌≡◌, ◌≤◌, [], ◌∷◌, ◌++◌, length, option_map, option_and_then, IfOk, OnOk};
+ghost use Rattle.std.specs.Prelude.{◌≡◌, ◌≤◌, length, option_map, option_and_then, IfOk};
 ghost use Rattle.model_objects.specs.Object.{Symbol};
-ghost use Rattle.model_expansion.specs.Forms.{elements, is_keyword_object};
-ghost use Rattle.model_stobjs.specs.Keys.{keys_in};
-ghost use Rattle.model_stobjs.specs.Descriptors.{two_symbols, renaming_of, is_executable_flag, stobj_keys, old_stobj, written_with, written_in, written_stobj};
-ghost use Rattle.acl_heap.specs.Objects.{object_of, Lies, reach};
-ghost use Rattle.acl_terms.specs.Signatures.{seen_name};
+ghost use Rattle.model_expansion.specs.Forms.{elements};
+ghost use Rattle.model_stobjs.specs.Descriptors.{two_symbols, renaming_of, is_executable_flag, old_stobj};
+ghost use Rattle.acl_heap.specs.Objects.{object_of, Lies};
 ghost use Rattle.acl_worlds.specs.Contents.{seen_world, WorldLies};
-ghost use Rattle.acl_layers.specs.Lists.{items_along, option_reach};
-ghost use Rattle.acl_stobj_read.specs.Written.{SeenPair, SeenRenaming, SeenOld, SeenStobj, seen_renaming, seen_pair, seen_fields, fields_reach};
+ghost use Rattle.acl_layers.specs.Lists.{option_reach};
+ghost use Rattle.acl_stobj_read.specs.Written.{SeenPair, SeenRenaming, SeenOld};
 
 use crate::lists::{symbol, two_or_three};
 use crate::world::descriptor_of;

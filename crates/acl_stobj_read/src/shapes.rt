@@ -1,6 +1,6 @@
 //! The shape that a field's type gives it.
 
-ghost use Rattle.std.specs.Prelude.{◌≡◌, ◌≤◌, ◌∷◌, length, option_map, option_and_then, option_to_list, unwrap_or, true, false, is_some};
+ghost use Rattle.std.specs.Prelude.{◌≡◌, ◌≤◌, ◌∷◌, length, option_map, option_and_then, option_to_list, unwrap_or, true, false, is_some, IfOk};
 ghost use Rattle.model_objects.specs.Object.{Symbol};
 ghost use Rattle.model_terms.specs.Worlds as worlds;
 ghost use Rattle.model_expansion.specs.Forms.{elements};
@@ -24,6 +24,7 @@ use acl_layers::{elements, is_end, is_symbol, take};
 use acl_terms::Shape;
 use acl_types::is_type;
 use acl_worlds::World;
+use std::alloc::{AllocError, Global};
 
 /// The most stobjs that are nested in each other.
 const MOST_NESTED: u32 = 64;
@@ -121,30 +122,48 @@ fn test_of_word(heap: &Heap, x: Word) -> Option<Test>
 }
 
 /// A stobj that may be nested one deeper.
-fn nested_named(world: &World, heap: &Heap, _field: &WrittenField, name: SymId) -> Option<SymId>
+fn nested_named(
+    alloc: Global,
+    world: &World,
+    heap: &Heap,
+    _field: &WrittenField,
+    name: SymId,
+) -> Result<Option<SymId>, AllocError>
     requires { WorldLies heap.now world.now }
-    ensures { nested_stobj (seen_world heap.now world.now) (seen_written heap.now _field.now) (Symbol name.0) ≡ seen_name result }
+    ensures { IfOk result (λ r. nested_stobj (seen_world heap.now world.now) (seen_written heap.now _field.now) (Symbol name.0) ≡ seen_name r) }
 {
     match descriptor_of(world, heap, name) {
-        None => None,
-        Some(_) => if nesting(world, heap, MOST_NESTED, name) < MOST_NESTED {
-            Some(name)
-        } else {
-            None
-        },
+        None => Ok(None),
+        Some(_) => {
+            let depth = nesting(alloc, world, heap, MOST_NESTED, name)?;
+            if depth < MOST_NESTED {
+                Ok(Some(name))
+            } else {
+                Ok(None)
+            }
+        }
     }
 }
 
-fn nested_stobj(world: &World, heap: &Heap, field: &WrittenField, x: Word) -> Option<SymId>
+fn nested_stobj(
+    alloc: Global,
+    world: &World,
+    heap: &Heap,
+    field: &WrittenField,
+    x: Word,
+) -> Result<Option<SymId>, AllocError>
     requires lies { Lies heap.now x }
     requires world { WorldLies heap.now world.now }
-    ensures { nested_stobj (seen_world heap.now world.now) (seen_written heap.now field.now) (object_of heap.now x) ≡ seen_name result }
+    ensures { IfOk result (λ r. nested_stobj (seen_world heap.now world.now) (seen_written heap.now field.now) (object_of heap.now x) ≡ seen_name r) }
 {
     match heap.look(x) {
-        Seen::Symbol(name) => nested_named(world, heap, field, name),
-        Seen::Integer(_) => None,
-        Seen::Text(_) => None,
-        Seen::Pair(_, _) => None,
+        Seen::Symbol(name) => {
+            let found = nested_named(alloc, world, heap, field, name)?;
+            Ok(found)
+        }
+        Seen::Integer(_) => Ok(None),
+        Seen::Text(_) => Ok(None),
+        Seen::Pair(_, _) => Ok(None),
     }
 }
 
@@ -190,42 +209,50 @@ fn array_of_values(
 /// An array of stobjs.
 #[tactic(auto, using(crate::proofs::ShapeLemmas::children_resizable, crate::proofs::ShapeLemmas::children_unknown, crate::proofs::ShapeLemmas::children_long, crate::proofs::ShapeLemmas::children_are))]
 fn array_of_stobjs(
+    alloc: Global,
     world: &World,
     heap: &Heap,
     field: &WrittenField,
     t: Word,
     n: Word,
-) -> Option<Shape>
+) -> Result<Option<Shape>, AllocError>
     requires element { Lies heap.now t }
     requires number { Lies heap.now n }
     requires world { WorldLies heap.now world.now }
     requires other { is_some (accepted_type (object_of heap.now t)) ≡ false }
-    ensures { SeenShape heap.now result (array_shape (seen_world heap.now world.now) (seen_written heap.now field.now) (object_of heap.now t) (accepted_type (object_of heap.now t)) (option_and_then (length_in (seen_world heap.now world.now)) (elements (object_of heap.now n)))) }
+    ensures { IfOk result (λ r. SeenShape heap.now r (array_shape (seen_world heap.now world.now) (seen_written heap.now field.now) (object_of heap.now t) (accepted_type (object_of heap.now t)) (option_and_then (length_in (seen_world heap.now world.now)) (elements (object_of heap.now n))))) }
 {
     if field.resizable {
-        return None;
+        return Ok(None);
     }
-    match nested_stobj(world, heap, field, t) {
-        None => None,
+    match nested_stobj(alloc, world, heap, field, t)? {
+        None => Ok(None),
         Some(stobj) => match length_in(world, heap, n, MOST_CHILDREN) {
-            None => None,
-            Some(len) => Some(Shape::Children { stobj, len }),
+            None => Ok(None),
+            Some(len) => Ok(Some(Shape::Children { stobj, len })),
         },
     }
 }
 
-fn array_shape(world: &World, heap: &Heap, field: &WrittenField, t: Word, n: Word) -> Option<Shape>
+fn array_shape(
+    alloc: Global,
+    world: &World,
+    heap: &Heap,
+    field: &WrittenField,
+    t: Word,
+    n: Word,
+) -> Result<Option<Shape>, AllocError>
     requires field { written_reach field.now ≤ length heap.now }
     requires element { Lies heap.now t }
     requires number { Lies heap.now n }
     requires world { WorldLies heap.now world.now }
-    ensures { SeenShape heap.now result (array_shape (seen_world heap.now world.now) (seen_written heap.now field.now) (object_of heap.now t) (accepted_type (object_of heap.now t)) (option_and_then (length_in (seen_world heap.now world.now)) (elements (object_of heap.now n)))) }
+    ensures { IfOk result (λ r. SeenShape heap.now r (array_shape (seen_world heap.now world.now) (seen_written heap.now field.now) (object_of heap.now t) (accepted_type (object_of heap.now t)) (option_and_then (length_in (seen_world heap.now world.now)) (elements (object_of heap.now n))))) }
 {
     if is_type(heap, t) {
-        array_of_values(world, heap, field, t, n)
-    } else {
-        array_of_stobjs(world, heap, field, t, n)
+        return Ok(array_of_values(world, heap, field, t, n));
     }
+    let shape = array_of_stobjs(alloc, world, heap, field, t, n)?;
+    Ok(shape)
 }
 
 fn hash_shape(_world: &World, heap: &Heap, field: &WrittenField, t: Word) -> Option<Shape>
@@ -243,77 +270,94 @@ fn hash_shape(_world: &World, heap: &Heap, field: &WrittenField, t: Word) -> Opt
 
 /// The shape that a list of two or three gives.
 fn listed_shape(
+    alloc: Global,
     world: &World,
     heap: &Heap,
     field: &WrittenField,
     head: Word,
     t: Word,
     n: Option<Word>,
-) -> Option<Shape>
+) -> Result<Option<Shape>, AllocError>
     requires field { written_reach field.now ≤ length heap.now }
     requires head { Lies heap.now head }
     requires element { Lies heap.now t }
     requires number { option_reach n ≤ length heap.now }
     requires world { WorldLies heap.now world.now }
-    ensures { SeenShape heap.now result (listed_shape (seen_world heap.now world.now) (seen_written heap.now field.now) (object_of heap.now head ∷ (object_of heap.now t ∷ option_to_list (option_map (object_of heap.now) n)))) }
+    ensures { IfOk result (λ r. SeenShape heap.now r (listed_shape (seen_world heap.now world.now) (seen_written heap.now field.now) (object_of heap.now head ∷ (object_of heap.now t ∷ option_to_list (option_map (object_of heap.now) n))))) }
 {
     if is_symbol(heap, head, words::HASH_TABLE) {
         return match n {
-            None => hash_shape(world, heap, field, t),
-            Some(_) => hash_shape(world, heap, field, t),
+            None => Ok(hash_shape(world, heap, field, t)),
+            Some(_) => Ok(hash_shape(world, heap, field, t)),
         };
     }
     match n {
-        None => None,
-        Some(n) => if is_symbol(heap, head, words::ARRAY) {
-            array_shape(world, heap, field, t, n)
-        } else {
-            None
-        },
+        None => Ok(None),
+        Some(n) => {
+            if !is_symbol(heap, head, words::ARRAY) {
+                return Ok(None);
+            }
+            let shape = array_shape(alloc, world, heap, field, t, n)?;
+            Ok(shape)
+        }
     }
 }
 
 /// The shape of a field whose type is not one of values.
 #[tactic(auto, using(crate::proofs::ShapeLemmas::not_listed, crate::proofs::ShapeLemmas::listed, crate::proofs::ShapeLemmas::child_resizable, crate::proofs::ShapeLemmas::child_unknown, crate::proofs::ShapeLemmas::child_is))]
-fn other_shape(world: &World, heap: &Heap, field: &WrittenField) -> Option<Shape>
+fn other_shape(
+    alloc: Global,
+    world: &World,
+    heap: &Heap,
+    field: &WrittenField,
+) -> Result<Option<Shape>, AllocError>
     requires field { written_reach field.now ≤ length heap.now }
     requires world { WorldLies heap.now world.now }
-    ensures { SeenShape heap.now result (other_shape (seen_world heap.now world.now) (seen_written heap.now field.now) (object_of heap.now field.now.spec)) }
+    ensures { IfOk result (λ r. SeenShape heap.now r (other_shape (seen_world heap.now world.now) (seen_written heap.now field.now) (object_of heap.now field.now.spec))) }
 {
     match heap.look(field.spec) {
         Seen::Symbol(name) => {
             if field.resizable {
-                return None;
+                return Ok(None);
             }
-            match nested_named(world, heap, field, name) {
-                None => None,
-                Some(stobj) => Some(Shape::Child(stobj)),
+            match nested_named(alloc, world, heap, field, name)? {
+                None => Ok(None),
+                Some(stobj) => Ok(Some(Shape::Child(stobj))),
             }
         }
         Seen::Pair(_, _) => match two_or_three(heap, field.spec) {
-            None => None,
-            Some((head, t, n)) => listed_shape(world, heap, field, head, t, n),
+            None => Ok(None),
+            Some((head, t, n)) => {
+                let shape = listed_shape(alloc, world, heap, field, head, t, n)?;
+                Ok(shape)
+            }
         },
-        Seen::Integer(_) => None,
-        Seen::Text(_) => None,
+        Seen::Integer(_) => Ok(None),
+        Seen::Text(_) => Ok(None),
     }
 }
 
 /// The shape of a field. None where its type is not accepted.
 #[tactic(auto, using(crate::proofs::ShapeLemmas::scalar_resizable, crate::proofs::ShapeLemmas::scalar_is, crate::proofs::ShapeLemmas::other_is))]
-pub fn shape_of(world: &World, heap: &Heap, field: &WrittenField) -> Option<Shape>
+pub fn shape_of(
+    alloc: Global,
+    world: &World,
+    heap: &Heap,
+    field: &WrittenField,
+) -> Result<Option<Shape>, AllocError>
     requires field { written_reach field.now ≤ length heap.now }
     requires world { WorldLies heap.now world.now }
-    ensures { SeenShape heap.now result (shape_of (seen_world heap.now world.now) (seen_written heap.now field.now)) }
+    ensures { IfOk result (λ r. SeenShape heap.now r (shape_of (seen_world heap.now world.now) (seen_written heap.now field.now))) }
 {
     if !is_type(heap, field.spec) {
-        return other_shape(world, heap, field);
+        let shape = other_shape(alloc, world, heap, field)?;
+        return Ok(shape);
     }
     if field.resizable {
-        return None;
+        return Ok(None);
     }
-    Some(Shape::Scalar {
+    Ok(Some(Shape::Scalar {
         spec: field.spec,
         initial: initial_value(heap, field),
-    })
+    }))
 }

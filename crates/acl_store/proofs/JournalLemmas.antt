@@ -1,5 +1,5 @@
 -- Notes, and what is put back.
-use Rattle.std.proofs.Common.{◌≡◌, ℕ, zero, suc, ◌<◌, ◌≤◌, ℤ, pos, List, [], ◌∷◌, ◌++◌, map, length, reverse, take, Option, Some, None, refl, sym, ap, ◌∙◌, subst, arith, inl, inr, set, get_or}
+use Rattle.std.proofs.Common.{◌≡◌, ℕ, zero, suc, ◌<◌, ◌≤◌, ℤ, pos, List, [], ◌∷◌, ◌++◌, map, length, reverse, take, Option, Some, None, refl, sym, ap, ◌∙◌, subst, arith, inl, inr, set}
 use Rattle.std.specs.Prelude.{◌≢◌, ◌⊎◌, slice_get, option_map, IsSomeAnd, IfSome}
 use Rattle.std.proofs.lemmas.List.{length-map, append-nil, reverse-append}
 use Rattle.model_objects.specs.Object.{Object}
@@ -15,16 +15,16 @@ use Rattle.acl_nodes.proofs.ClearLemmas.{below_both}
 use Rattle.acl_nodes.proofs.FieldLemmas.{part_written}
 use Rattle.acl_nodes.proofs.CutLemmas.{list_left, taken_place}
 use Rattle.acl_nodes.proofs.NoteLemmas.{note_remembered, back_remembered, write_remembered}
-use Rattle.acl_base.specs.declared.layout.Kind.{Kind}
 use Rattle.acl_heap.specs.Objects.{nothing}
-use Rattle.acl_store.specs.Fields.{InRange, Field, One, Many, Any, Anys, Table, IsTable, table_in, shown, integer, IsElement, with_element, with_held, HasValue, value_in}
+use Rattle.acl_fields.specs.Fields.{Field, One, Many, Any, Anys, Table, IsTable, table_in, shown, integer, IsElement, with_element, with_held, HasValue, value_in}
 use Rattle.acl_maps.specs.Cells.{Cells, with_cell, IsSuited}
-use Rattle.acl_store.specs.Parts.{part_of, path_in}
+use Rattle.acl_fields.specs.Parts.{part_of, path_in}
 use Rattle.acl_store.specs.Calls.{Nodes, Holds, place_in, IsInline, IsPut}
-use Rattle.acl_store.specs.Journals.{bare, StayShaped, retabled, back, path_noted, ShowsOwn, Restored, note_for, notes_with, SuitsPart, Suits, put_part, put_back, Fit, AreLists, AmongOld, IsNote, Remembers, MayBeWritten, Begins, NoteRemembers, StepsBack, Restores, WriteRemembers}
+use Rattle.acl_fields.specs.Notes.{bare, retabled, back, path_noted, ShowsOwn, Restored, SuitsPart, IsNote}
+use Rattle.acl_store.specs.Journals.{StayShaped, note_for, notes_with, Suits, put_part, put_back, Fit, AreLists, AmongOld, Remembers, MayBeWritten, Begins, NoteRemembers, StepsBack, Restores, WriteRemembers}
 use Rattle.acl_store.specs.declared.notes.Old.{Old}
-use Rattle.acl_store.specs.declared.notes.OldPart.{OldPart}
-use Rattle.acl_store.specs.declared.notes.OldPart.TheVariants.{Element, Held, Entry, Whole}
+use Rattle.acl_fields.specs.declared.notes.OldPart.{OldPart}
+use Rattle.acl_fields.specs.declared.notes.OldPart.TheVariants.{Element, Held, Entry, Whole}
 use Rattle.acl_store.proofs.StoreLemmas.{read_value, element_value, write_part, write_held}
 
 none_some : {X : Type 0} {x : X} → None ≡ Some x → ⊥
@@ -46,11 +46,6 @@ with_again (n ∷ ns) zero f p e = ap (λ (ps : List (Part Field)). record n { p
 with_again (n ∷ ns) (suc k) f p e = ap (λ (ms : Nodes). n ∷ ms) (with_again ns k f p e)
 
 -- ---- a note
-
-pub set_same : (vs : List ℤ) (i : ℕ) (v : ℤ) → v ≡ get_or vs i (pos 0) → i < length vs → set vs i v ≡ vs
-set_same [] i v e h = refl
-set_same (x ∷ vs) zero v e h = ap (λ (z : ℤ). z ∷ vs) e
-set_same (x ∷ vs) (suc i) v e h = let fewer : i < length vs = omega (arith, h) in ap (λ (zs : List ℤ). x ∷ zs) (set_same vs i v e fewer)
 
 pub put_is : (ns : Nodes) (o : Old) (p : Part Field) → part_at ns o.node o.field ≡ Some p → put_back o ns ≡ with_part o.node o.field (back o.part p) ns
 put_is ns o p e = ap (λ (r : Option (Part Field)). put_part r o ns) e
@@ -485,16 +480,6 @@ writes_keep ns after olds first n f i v p q kept before r = by (part_at ns n f) 
         → IfSome o (λ s. MayBeWritten olds first n (path_in s f i) → Remembers after olds first (record kept { roots = with_list_at (place_in kept s n f i) (integer v) kept.roots }) before)
     by None at p q = absurd p
     by (Some s) at p q = λ may. write_keeps ns after olds first n f (path_in s f i) (integer v) s (with_element s i v) at (element_form s i v) q kept before (write_part ns kept r.holds n f i v s at p) r may
-
--- ---- notes of integers
-
-pub element_note : (kind : Kind) (x v w : ℤ) (vs : List ℤ) (i : ℕ) → i < length vs → w ≡ v → v ≡ get_or vs i (pos 0) → InRange kind v → IsNote (Element i w) (Own (Many kind x vs)) i
-element_note kind x v w vs i h d e r = subst (λ (u : ℤ). IsNote (Element i u) (Own (Many kind x vs)) i) (sym d) (record {
-  suits = (tt, h, r);
-  same = ap (λ (us : List ℤ). Own (Many kind x us)) (set_same vs i v e h);
-  path = λ f. refl;
-  shows = ap integer (sym e);
-})
 
 -- ---- calls
 

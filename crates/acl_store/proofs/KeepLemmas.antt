@@ -18,12 +18,13 @@ use Rattle.acl_nodes.proofs.CutLemmas.{cut_holds, length_take, taken_same}
 use Rattle.acl_nodes.proofs.ExtendLemmas.{extended_part}
 use Rattle.acl_nodes.proofs.MovedLemmas.{first_within, created_remembered, cut_remembered}
 use Rattle.acl_nodes.proofs.NoteLemmas.{note_remembered, write_remembered}
-use Rattle.acl_store.specs.Fields.{Field, One, Many, Any, Anys, Table, shown, IsSized, IsFilled, sized, filling}
+use Rattle.acl_fields.specs.Fields.{Field, One, Many, Any, Anys, Table, shown, IsSized, IsFilled, sized, filling}
 use Rattle.acl_store.specs.Calls.{Nodes, Holds, Creates, IsArray, IsSizedTo}
-use Rattle.acl_store.specs.Journals.{bare, back, path_noted, ShowsOwn, Restored, note_for, notes_with, SuitsPart, put_back, Fit, AreLists, IsWhole, IsNoted, Remembers, StayWritable, CreateRemembers, ResizeRemembers, CutRemembers}
+use Rattle.acl_fields.specs.Notes.{bare, back, path_noted, ShowsOwn, Restored, SuitsPart, IsWhole}
+use Rattle.acl_store.specs.Journals.{note_for, notes_with, put_back, Fit, AreLists, IsNoted, Remembers, StayWritable, CreateRemembers, ResizeRemembers, CutRemembers}
 use Rattle.acl_store.specs.declared.notes.Old.{Old}
-use Rattle.acl_store.specs.declared.notes.OldPart.{OldPart}
-use Rattle.acl_store.specs.declared.notes.OldPart.TheVariants.{Element, Held, Entry, Whole}
+use Rattle.acl_fields.specs.declared.notes.OldPart.{OldPart}
+use Rattle.acl_fields.specs.declared.notes.OldPart.TheVariants.{Element, Held, Entry, Whole}
 use Rattle.acl_store.proofs.StoreLemmas.{resize_part}
 use Rattle.acl_store.proofs.JournalLemmas.{form, keep_alike, put_is, with_again, newest_is}
 

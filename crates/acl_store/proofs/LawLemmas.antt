@@ -12,7 +12,7 @@ use Rattle.acl_nodes.proofs.NodeLemmas.{part_within}
 use Rattle.acl_nodes.proofs.SeenLemmas.{all_stand}
 use Rattle.acl_maps.specs.Cells.{pairs_in}
 use Rattle.acl_maps.proofs.CountLemmas.{pairs_found}
-use Rattle.acl_store.specs.Fields.{Field, One, Many, Any, Anys, Table, shown, list_of, HasValue}
+use Rattle.acl_fields.specs.Fields.{Field, One, Many, Any, Anys, Table, shown, list_of, HasValue}
 use Rattle.acl_store.specs.Calls.{Nodes, Holds, place_in}
 use Rattle.acl_store.specs.Laws.{NodesStand, updated, WritesAreUpdates}
 

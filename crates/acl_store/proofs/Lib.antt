@@ -1,9 +1,9 @@
-pub mod SlotLemmas
-pub mod NodeLemmas
-pub mod MakeLemmas
 pub mod StoreLemmas
 pub mod LawLemmas
 pub mod JournalLemmas
 pub mod KeepLemmas
 pub mod ObjectLemmas
 pub mod TableLemmas
+pub mod CountLemmas
+pub mod LayoutLemmas
+pub mod SliceLemmas

@@ -1,48 +1,22 @@
 -- Objects of any kind that are put into fields.
-use Rattle.std.proofs.Common.{◌≡◌, ℕ, zero, suc, ◌<◌, ◌≤◌, List, [], ◌∷◌, reverse, Option, Some, None, length, set, get_or, refl, sym, ap, ◌∙◌, subst, arith, inl, inr}
+use Rattle.std.proofs.Common.{◌≡◌, ℕ, ◌<◌, ◌≤◌, List, [], ◌∷◌, reverse, Option, Some, None, refl, sym, ap, ◌∙◌, subst, inl, inr}
 use Rattle.std.specs.Prelude.{IsSomeAnd, IfSome}
 use Rattle.std.proofs.lemmas.List.{append-nil}
-use Rattle.acl_base.specs.declared.Word.{Word}
-use Rattle.acl_heap.specs.Objects.{nothing}
 use Rattle.model_objects.specs.Object.{Object}
 use Rattle.model_eval.specs.PlacesKeeping.{with_list_at}
 use Rattle.acl_nodes.specs.Kept.{Kept}
-use Rattle.acl_nodes.specs.Nodes.{Part, Own, part_at, with_part, IsOwn}
+use Rattle.acl_nodes.specs.Nodes.{Part, part_at, with_part}
 use Rattle.acl_nodes.proofs.NodeLemmas.{with_changed}
-use Rattle.acl_store.specs.Fields.{Field, Any, Anys, plain, IsHeld, with_held}
-use Rattle.acl_store.specs.Layouts.{Follow}
-use Rattle.acl_store.specs.Parts.{part_of, path_in}
+use Rattle.acl_fields.specs.Fields.{Field, plain, IsHeld, with_held}
+use Rattle.acl_fields.specs.Layouts.{Follow}
+use Rattle.acl_fields.specs.Parts.{path_in}
 use Rattle.acl_store.specs.Calls.{Nodes, Holds, place_in, IsGeneral, IsObjectPut, WritesObject, StayTyped}
-use Rattle.acl_store.specs.Journals.{bare, ShowsOwn, path_noted, IsNote, IsNotedAt, Remembers, NoteRemembers, ObjectRemembers, StayWritable}
+use Rattle.acl_fields.specs.Notes.{path_noted, IsNote}
+use Rattle.acl_store.specs.Journals.{IsNotedAt, Remembers, NoteRemembers, ObjectRemembers, StayWritable}
 use Rattle.acl_store.specs.declared.notes.Old.{Old}
-use Rattle.acl_store.specs.declared.notes.OldPart.TheVariants.{Held, Whole}
-use Rattle.acl_store.specs.declared.slot.Slot.{Slot}
 use Rattle.acl_store.proofs.StoreLemmas.{by_some, out_of, held_value, write_held, held_matches, follow_changed}
 use Rattle.acl_store.proofs.JournalLemmas.{held_form, newest_is, note_keeps, write_keeps}
 use Rattle.acl_store.proofs.KeepLemmas.{stay_pushed}
-
--- ---- notes
-
-set_same : {X : Type 0} (xs : List X) (i : ℕ) (x d : X) → x ≡ get_or xs i d → i < length xs → set xs i x ≡ xs
-set_same [] i x d e h = refl
-set_same (y ∷ xs) zero x d e h = ap (λ (z : _). z ∷ xs) e
-set_same (y ∷ xs) (suc i) x d e h = let fewer : i < length xs = omega (arith, h) in ap (λ (zs : List _). y ∷ zs) (set_same xs i x d e fewer)
-
-pub held_note : (x : Word) (os : List (Object ℕ)) (i : ℕ) (o : Object ℕ) → i < length os → o ≡ get_or os i nothing → IsNote (Held i o) (Own (Anys x os)) i
-held_note x os i o h e = record {
-  suits = (tt, h);
-  same = ap (λ (ws : List (Object ℕ)). Own (Anys x ws)) (set_same os i o nothing e h);
-  path = λ f. refl;
-  shows = ap plain (sym e);
-}
-
-pub any_note : (s : Slot) (o : Object ℕ) (i : ℕ) → part_of s ≡ Own (Any o) → IsNote (Whole s) (Own (Any o)) i
-any_note s o i e = record {
-  suits = (tt, subst IsOwn (sym e) tt, ap bare e);
-  same = e;
-  path = λ f. refl;
-  shows = subst (λ (p : Part Field). ShowsOwn p (plain o)) (sym e) refl;
-}
 
 -- ---- calls
 

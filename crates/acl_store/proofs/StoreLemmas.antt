@@ -21,15 +21,15 @@ use Rattle.acl_nodes.proofs.NodeLemmas.{nat_or, part_is, part_within, with_chang
 use Rattle.acl_nodes.proofs.FieldLemmas.{field_there, written, part_written}
 use Rattle.acl_nodes.proofs.CutLemmas.{cut_holds, nothing_holds, length_take, taken_part, taken_width, taken_layout}
 use Rattle.acl_nodes.proofs.MakingLemmas.{created}
-use Rattle.acl_store.specs.Fields.{Field, One, Many, Any, Anys, Table, shown, table_in, integer, plain, IsSmall, number_of, IsElement, IsKept, element, with_element, IsHeld, held, with_held, HasValue, value_in, IsSized, IsFilled, sized, filling, HasLength, length_of}
-use Rattle.acl_store.specs.Parts.{part_of, HasChild, child_of}
-use Rattle.acl_store.specs.Layouts.{Matches, Follow, field_in, size_in}
-use Rattle.acl_store.specs.Views.{parts_of, node_of, view}
+use Rattle.acl_fields.specs.Fields.{Field, One, Many, Any, Anys, Table, shown, table_in, integer, plain, IsSmall, number_of, IsElement, IsKept, element, with_element, IsHeld, held, with_held, HasValue, value_in, IsSized, IsFilled, sized, filling, HasLength, length_of}
+use Rattle.acl_fields.specs.Parts.{part_of, HasChild, child_of}
+use Rattle.acl_fields.specs.Layouts.{Matches, Follow, field_in, size_in}
+use Rattle.acl_fields.specs.Views.{parts_of, node_of, view}
 use Rattle.acl_store.specs.Calls as calls
 use Rattle.acl_store.specs.Calls.{Nodes, Holds, place_in, IsGeneral, IsInline, IsMany, IsParent, Reads, ReadsObject, Writes, IsPut, Measures, Lends, Resizes, IsSizedTo, Cuts, Creates, StayTyped, StayTypedIf, IsTyped}
-use Rattle.acl_store.specs.Making.{NodeFor}
-use Rattle.acl_store.specs.declared.node.Node.{Node as Memory}
-use Rattle.acl_store.specs.declared.slot.Slot.{Slot}
+use Rattle.acl_making.specs.Making.{NodeFor}
+use Rattle.acl_fields.specs.declared.node.Node.{Node as Memory}
+use Rattle.acl_fields.specs.declared.slot.Slot.{Slot}
 use Rattle.acl_heap.specs.Objects.{Objects, object_of, nothing, Lies, Denotes}
 
 none_some : {X : Type 0} {x : X} → None ≡ Some x → ⊥
@@ -135,7 +135,7 @@ write_held ns kept h k f i v (Own (Table cs)) at is = absurd is
 write_held ns kept h k f i v (Child c) at is = absurd is
 write_held ns kept h k f i v (Children cs) at is = absurd is
 
-measure_part : (ns : Nodes) (kept : Kept) (h : Holds ns kept) (k f : ℕ) (p : Part Field) → part_at ns k f ≡ Some p → HasLength p → size (list_at kept.roots (field_at kept.places k f)) ≡ length_of p
+pub measure_part : (ns : Nodes) (kept : Kept) (h : Holds ns kept) (k f : ℕ) (p : Part Field) → part_at ns k f ≡ Some p → HasLength p → size (list_at kept.roots (field_at kept.places k f)) ≡ length_of p
 measure_part ns kept h k f (Own (One w)) at is = absurd is
 measure_part ns kept h k f (Own (Many kind x vs)) at is = ap size (h.shows k f (Own (Many kind x vs)) at) ∙ size_of integer vs
 measure_part ns kept h k f (Own (Any o)) at is = absurd is

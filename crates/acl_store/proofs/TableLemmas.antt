@@ -14,24 +14,22 @@ use Rattle.model_symbols.specs.Symbols.{QualifiedName}
 use Rattle.acl_hash.specs.Same.{same_key, same_equiv}
 use Rattle.acl_hash.specs.Sorting.{KnowsPairs}
 use Rattle.acl_maps.specs.Listing.{IsListing}
-use Rattle.acl_maps.specs.Cells.{Cells, full, hole, with_cell, opened_in, found_in, pairs_in, count_in, Finds, IsSuited}
+use Rattle.acl_maps.specs.Cells.{Cells, full, hole, with_cell, opened_in, found_in, pairs_in, count_in, Finds}
 use Rattle.acl_maps.proofs.CellLemmas.{found_without, value_with}
 use Rattle.acl_maps.proofs.CountLemmas.{pairs_found, one_count}
 use Rattle.acl_nodes.specs.Kept.{Kept, field_at, with_field}
 use Rattle.acl_nodes.specs.Nodes.{Part, Own, Child, Children, part_at, with_part, IsOwn}
 use Rattle.acl_nodes.proofs.NodeLemmas.{with_changed}
 use Rattle.acl_nodes.proofs.FieldLemmas.{written}
-use Rattle.acl_store.specs.Fields.{Field, One, Many, Any, Anys, Table, IsTable, table_in, shown}
-use Rattle.acl_store.specs.Layouts.{Matches, Follow}
-use Rattle.acl_store.specs.Parts.{part_of}
+use Rattle.acl_fields.specs.Fields.{Field, One, Many, Any, Anys, Table, IsTable, table_in, shown}
+use Rattle.acl_fields.specs.Layouts.{Matches, Follow}
 use Rattle.acl_store.specs.Calls.{Nodes, Holds, StayTyped}
-use Rattle.acl_store.specs.Journals.{bare, ShowsOwn, Remembers, StayWritable}
-use Rattle.acl_store.specs.Tables.{changed, pairs_changed, tabled_in, tabled, FindsIn, Counts, CountsAt, IsKnownTable, Lists, IsKnownHash, ListsAt, GivesBack, IsHash, pairs_at, FindsAt, IsTabled, WritesPairs, IsTableNoted, PairsRemember}
-use Rattle.acl_store.specs.declared.change.Change.{Change}
-use Rattle.acl_store.specs.declared.change.Change.TheVariants.{Put, Empty, Clear}
+use Rattle.acl_store.specs.Journals.{Remembers, StayWritable}
+use Rattle.acl_fields.specs.Changes.{changed, tabled_in, tabled, FindsIn, Counts, IsKnownTable, Lists, GivesBack}
+use Rattle.acl_store.specs.Tables.{pairs_changed, CountsAt, IsKnownHash, ListsAt, IsHash, pairs_at, FindsAt, IsTabled, WritesPairs, IsTableNoted, PairsRemember}
+use Rattle.acl_fields.specs.declared.change.Change.{Change}
+use Rattle.acl_fields.specs.declared.change.Change.TheVariants.{Put, Empty, Clear}
 use Rattle.acl_store.specs.declared.notes.Old.{Old}
-use Rattle.acl_store.specs.declared.notes.OldPart.TheVariants.{Entry, Whole}
-use Rattle.acl_store.specs.declared.slot.Slot.{Slot}
 use Rattle.acl_store.proofs.StoreLemmas.{out_of, by_some, follow_changed}
 use Rattle.acl_store.proofs.JournalLemmas.{newest_is}
 use Rattle.acl_store.proofs.KeepLemmas.{own_shown, field_local, field_noted, stay_pushed}
@@ -197,24 +195,6 @@ pairs_noted u g ns after olds news first n f fo h p i q =
 
 pub stay_tabled : (u : Cells → Cells) (ns : Nodes) (n f : ℕ) (olds news : List Old) (first : ℕ) → IsTableNoted ns n f u olds news → StayWritable (reverse olds) first (reverse news)
 stay_tabled u ns n f olds news first i = stay_pushed olds news first i.note i.last
-
--- ---- notes
-
-pub entry_gives : (h : Object ℕ × Option (Object ℕ)) (new old : Cells) → with_cell h.0 h.1 new ≡ old → IsSuited h new → GivesBack (Entry h) (Own (Table new)) (Own (Table old))
-entry_gives h new old b s = record {
-  suits = s;
-  is = ap (λ (cs : Cells). Own (Table cs)) b;
-  path = λ f. refl;
-  restored = λ l t. subst (λ (cs : Cells). IsTable cs l) (sym b) t;
-}
-
-pub table_gives : (s : Slot) (new old : Cells) → part_of s ≡ Own (Table old) → GivesBack (Whole s) (Own (Table new)) (Own (Table old))
-table_gives s new old e = record {
-  suits = (tt, subst IsOwn (sym e) tt, ap bare e);
-  is = e;
-  path = λ f. refl;
-  restored = λ l t. subst (λ (p : Part Field). ShowsOwn p l) (sym e) t;
-}
 
 -- what is found in the field is found in its list
 pub finds_at : (ns : Nodes) (n f : ℕ) (k : Object ℕ) (hs : Objects) (r : Option Word) → IsHash ns n f → IfSome (part_at ns n f) (λ p. FindsIn p k hs r) → FindsAt ns n f k hs r

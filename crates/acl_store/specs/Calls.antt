@@ -13,9 +13,9 @@ use Rattle.acl_nodes.specs.Nodes.{Part, Node, part_at, layout_at, with_part}
 use Rattle.acl_nodes.specs.Holding as nodes
 use Rattle.acl_nodes.specs.Making.{IsCreated}
 use Rattle.acl_nodes.specs.Cutting as cutting
-use Rattle.acl_store.specs.Fields.{Field, shown, integer, plain, IsSmall, number_of, IsElement, IsKept, with_element, IsHeld, with_held, IsSized, IsFilled, sized, filling, HasLength}
-use Rattle.acl_store.specs.Parts.{HasChild, path_in}
-use Rattle.acl_store.specs.Layouts.{AreBorn, Follow, field_in}
+use Rattle.acl_fields.specs.Fields.{Field, shown, integer, plain, IsSmall, number_of, IsElement, IsKept, with_element, IsHeld, with_held, IsSized, IsFilled, sized, filling, HasLength}
+use Rattle.acl_fields.specs.Parts.{HasChild, path_in}
+use Rattle.acl_fields.specs.Layouts.{AreBorn, Follow, field_in}
 
 abbrev pub Nodes : Type 0
 Nodes = List (Node Field)

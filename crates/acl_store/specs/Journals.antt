@@ -1,56 +1,23 @@
 -- What a journal notes of fields, and what is remembered by it.
-use Rattle.std.specs.Prelude.{◌≡◌, ◌⊎◌, ℕ, ℤ, ◌<◌, ◌≤◌, List, [], ◌∷◌, ◌++◌, length, take, pos, Option, Some, None, IsSomeAnd, IfSome, option_map}
+use Rattle.std.specs.Prelude.{◌≡◌, ◌⊎◌, ℕ, ℤ, ◌<◌, ◌≤◌, List, [], ◌∷◌, ◌++◌, length, take, Option, Some, None, IsSomeAnd, IfSome, option_map}
 use Rattle.acl_base.specs.declared.layout.Layout.{Layout}
-use Rattle.acl_heap.specs.Objects.{Objects, nothing}
+use Rattle.acl_heap.specs.Objects.{Objects}
 use Rattle.model_objects.specs.Object.{Object}
 use Rattle.model_lists.specs.Lists.{StobjList, resized}
 use Rattle.model_eval.specs.PlacesKeeping.{list_at, with_list_at}
 use Rattle.acl_nodes.specs.Kept.{Kept, place_at, field_at, with_field, IsRooted}
 use Rattle.acl_nodes.specs.Making.{IsCreated}
-use Rattle.acl_nodes.specs.Nodes.{Part, Own, Child, Children, part_at, layout_at, width, with_part, IsOwn}
+use Rattle.acl_nodes.specs.Nodes.{Part, part_at, layout_at, width, with_part}
 use Rattle.acl_nodes.specs.Notes as notes
 use Rattle.acl_nodes.specs.Notes.{Note}
-use Rattle.acl_store.specs.Fields.{Field, One, Many, Any, Anys, Table, IsTable, table_in, shown, integer, plain, IsElement, IsKept, IsHeld, IsSized, with_element, with_held, value_in, filling}
-use Rattle.acl_maps.specs.Cells.{Cells, with_cell, IsSuited}
-use Rattle.acl_store.specs.Parts.{part_of, path_in}
+use Rattle.acl_fields.specs.Fields.{Field, shown, integer, plain, filling}
+use Rattle.acl_fields.specs.Parts.{path_in}
 use Rattle.acl_store.specs.Calls.{Nodes, Holds, place_in}
-use Rattle.acl_store.specs.Layouts.{AreBorn}
+use Rattle.acl_fields.specs.Layouts.{AreBorn}
+use Rattle.acl_fields.specs.Notes.{back, path_noted, Restored, bare, SuitsPart, IsNote, IsWhole}
 use Rattle.acl_store.specs.declared.notes.Old.{Old}
-use Rattle.acl_store.specs.declared.notes.OldPart.{OldPart}
-use Rattle.acl_store.specs.declared.notes.OldPart.TheVariants.{Element, Held, Entry, Whole}
 
 -- ---- one note
-
--- the field with another cell for a key, where it is a hash field
-abbrev pub retabled : Option Cells → Object ℕ × Option (Object ℕ) → Part Field → Part Field
-retabled None h p = p
-retabled (Some cs) h p = Own (Table (with_cell h.0 h.1 cs))
-
--- the field once the note is put back
-abbrev pub back : OldPart → Part Field → Part Field
-back (Element i v) p = with_element p i v
-back (Held i o) p = with_held p i o
-back (Entry h) p = retabled (table_in p) h p
-back (Whole s) p = part_of s
-
-abbrev pub path_noted : OldPart → ℕ → List ℕ
-path_noted (Element i v) f = f ∷ i ∷ []
-path_noted (Held i o) f = f ∷ i ∷ []
-path_noted (Entry h) f = f ∷ []
-path_noted (Whole s) f = f ∷ []
-
--- a field of a node's own shows the list
-abbrev pub ShowsOwn : Part Field → StobjList ℕ → Type 0
-ShowsOwn (Own o) l = shown o l
-ShowsOwn (Child c) l = ⊥
-ShowsOwn (Children cs) l = ⊥
-
--- the list is what stands at the place of the note, once it is put back into the field
-abbrev pub Restored : OldPart → Part Field → StobjList ℕ → Type 0
-Restored (Element i v) p l = l ≡ integer v
-Restored (Held i o) p l = l ≡ plain o
-Restored (Entry h) p l = IfSome (table_in p) (λ cs. IsTable (with_cell h.0 h.1 cs) l)
-Restored (Whole s) p l = ShowsOwn (part_of s) l
 
 abbrev pub note_for : Old → StobjList ℕ → Note
 note_for o l = record { node = o.node; path = path_noted o.part o.field; list = l }
@@ -60,23 +27,6 @@ abbrev pub notes_with : List Old → List (StobjList ℕ) → List Note
 notes_with [] ls = []
 notes_with (o ∷ os) [] = []
 notes_with (o ∷ os) (l ∷ ls) = note_for o l ∷ notes_with os ls
-
--- a field without its values
-abbrev pub bare : Part Field → Part Field
-bare (Own (One v)) = Own (One (pos 0))
-bare (Own (Many kind x vs)) = Own (Many kind x [])
-bare (Own (Any o)) = Own (Any nothing)
-bare (Own (Anys x os)) = Own (Anys x [])
-bare (Own (Table cs)) = Own (Table [])
-bare (Child c) = Child c
-bare (Children cs) = Children cs
-
--- it may be put back into the field
-abbrev pub SuitsPart : OldPart → Part Field → Type 0
-SuitsPart (Element i v) p = IsSized p × IsElement p i × IsKept p v
-SuitsPart (Held i o) p = IsSized p × IsHeld p i
-SuitsPart (Entry h) p = IsSomeAnd (table_in p) (λ cs. IsSuited h cs)
-SuitsPart (Whole s) p = IsOwn p × IsOwn (part_of s) × (bare (part_of s) ≡ bare p)
 
 abbrev pub Suits : Nodes → Old → Type 0
 Suits ns o = IsSomeAnd (part_at ns o.node o.field) (SuitsPart o.part)
@@ -100,20 +50,6 @@ AreLists ns [] [] = Unit {0}
 AreLists ns [] (l ∷ ls) = ⊥
 AreLists ns (o ∷ os) [] = ⊥
 AreLists ns (o ∷ os) (l ∷ ls) = IfSome (part_at ns o.node o.field) (λ p. Restored o.part p l) × AreLists (put_back o ns) os ls
-
--- it is a note of what is at this index, as it is
-pub record IsNote (q : OldPart) (p : Part Field) (i : ℕ) : Type 0 where
-  pub suits : SuitsPart q p
-  pub same : back q p ≡ p
-  pub path : (f : ℕ) → path_noted q f ≡ path_in p f i
-  pub shows : Restored q p (value_in p i)
-
--- it is a note of the whole field, as it is
-abbrev pub IsWhole : OldPart → Part Field → Type 0
-IsWhole (Element i v) p = ⊥
-IsWhole (Held i o) p = ⊥
-IsWhole (Entry h) p = ⊥
-IsWhole (Whole s) p = part_of s ≡ p
 
 -- the whole field was noted, behind the others
 pub record IsNoted (ns : Nodes) (n f : ℕ) (olds news : List Old) : Type 0 where

@@ -1,9 +1,5 @@
-pub mod Fields
-pub mod Parts
-pub mod Views
-pub mod Layouts
-pub mod Making
 pub mod Calls
 pub mod Laws
 pub mod Journals
 pub mod Tables
+pub mod Counts

@@ -1,76 +1,32 @@
 -- Hash fields: what the calls on them make of their cells and of their lists.
-use Rattle.std.specs.Prelude.{◌≡◌, ℕ, List, [], ◌∷◌, ◌++◌, Option, Some, None, IsSome, IsSomeAnd, IfSome}
+use Rattle.std.specs.Prelude.{◌≡◌, ℕ, List, [], ◌∷◌, ◌++◌, Option, IsSome, IsSomeAnd, IfSome}
 use Rattle.model_objects.specs.Object.{Object}
 use Rattle.model_prims.specs.Kinds.{by_number}
-use Rattle.model_lists.specs.Lists.{StobjList, Pairs, pairs_of, value_at, without_key, key_count}
+use Rattle.model_lists.specs.Lists.{Pairs, pairs_of, value_at, without_key, key_count}
 use Rattle.model_eval.specs.PlacesKeeping.{list_at}
 use Rattle.acl_base.specs.declared.Word.{Word}
 use Rattle.acl_heap.specs.Objects.{Objects}
 use Rattle.acl_heap.specs.Equal.{AllLie}
 use Rattle.acl_hash.specs.Sorting.{pairs_in as pairs_of_words, named_pairs, KnowsPairs}
 use Rattle.model_symbols.specs.Symbols.{QualifiedName}
-use Rattle.acl_maps.specs.Listing.{IsListing}
-use Rattle.acl_maps.specs.Cells.{Cells, full, with_cell, emptied, found_in, pairs_in, count_in, Finds}
+use Rattle.acl_maps.specs.Cells.{Cells, Finds}
 use Rattle.acl_nodes.specs.Kept.{Kept, field_at, with_field}
-use Rattle.acl_nodes.specs.Nodes.{Part, Own, part_at, with_part}
-use Rattle.acl_store.specs.Fields.{Field, Table, table_in}
+use Rattle.acl_nodes.specs.Nodes.{part_at, with_part}
+use Rattle.acl_fields.specs.Fields.{table_in}
 use Rattle.acl_store.specs.Calls.{Nodes, Holds}
-use Rattle.acl_store.specs.Journals.{ShowsOwn, Restored, SuitsPart, back, path_noted, Remembers}
-use Rattle.acl_store.specs.declared.change.Change.{Change}
-use Rattle.acl_store.specs.declared.change.Change.TheVariants.{Put, Empty, Clear}
+use Rattle.acl_fields.specs.Notes.{back}
+use Rattle.acl_store.specs.Journals.{Remembers}
+use Rattle.acl_fields.specs.declared.change.Change.{Change}
+use Rattle.acl_fields.specs.declared.change.Change.TheVariants.{Put, Empty, Clear}
+use Rattle.acl_fields.specs.Changes.{tabled, IsKnownTable, GivesBack}
 use Rattle.acl_store.specs.declared.notes.Old.{Old}
-use Rattle.acl_store.specs.declared.notes.OldPart.{OldPart}
 
 -- ---- changes
-
--- the entry of a key has it for its own
-abbrev pub IsChange : Change → Type 0
-IsChange (Put k e) = e.key ≡ k
-IsChange (Empty k) = Unit {0}
-IsChange Clear = Unit {0}
-
-abbrev pub changed : Change → Cells → Cells
-changed (Put k e) cs = with_cell k (Some (full e.value)) cs
-changed (Empty k) cs = emptied k cs
-changed Clear cs = []
 
 abbrev pub pairs_changed : Change → Cells → Cells
 pairs_changed (Put k e) ps = (k, e.value) ∷ ps
 pairs_changed (Empty k) ps = without_key by_number k ps
 pairs_changed Clear ps = []
-
--- ---- one field
-
-abbrev pub tabled_in : Option Cells → (Cells → Cells) → Part Field → Part Field
-tabled_in None u p = p
-tabled_in (Some cs) u p = Own (Table (u cs))
-
--- a hash field with other cells
-abbrev pub tabled : (Cells → Cells) → Part Field → Part Field
-tabled u p = tabled_in (table_in p) u p
-
--- what the key finds in the field, in a heap
-abbrev pub FindsIn : Part Field → Object ℕ → Objects → Option Word → Type 0
-FindsIn p k h r = IfSome (table_in p) (λ cs. Finds h (found_in k cs) r)
-
--- how many keys of the field have a value
-abbrev pub Counts : Part Field → ℕ → Type 0
-Counts p m = IfSome (table_in p) (λ cs. m ≡ count_in cs)
-
--- each symbol in the keys and the values of the field is known
-abbrev pub IsKnownTable : List QualifiedName → Part Field → Type 0
-IsKnownTable symbols p = IsSomeAnd (table_in p) (λ cs. KnowsPairs symbols (pairs_in cs))
-
--- the words are the pairs of the field in order
-abbrev pub Lists : List QualifiedName → Part Field → Objects → List (Word × Word) → Type 0
-Lists symbols p h ws = IfSome (table_in p) (λ cs. IsListing symbols cs h ws)
-
--- the note gives the old field back in place of the new one, and its list
-pub record GivesBack (q : OldPart) (new old : Part Field) : Type 0 where
-  pub suits : SuitsPart q new
-  pub is : back q new ≡ old
-  pub path : (f : ℕ) → path_noted q f ≡ f ∷ []
-  pub restored : (l : StobjList ℕ) → ShowsOwn old l → Restored q new l
 
 -- ---- calls
 

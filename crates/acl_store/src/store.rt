@@ -1,22 +1,27 @@
 //! `Store`.
-ghost use Rattle.std.specs.Prelude.{◌≡◌, ◌≤◌, [], ◌∷◌, ◌++◌, ◌<◌, length, reverse, take, true, false, IfOk, IfSome, OnOk, OnErr, vec_len, vec_capacity};
+ghost use Rattle.std.specs.Prelude.{◌≡◌, ◌+◌, ◌-◌, ◌≤◌, [], ◌∷◌, ◌++◌, ◌<◌, ◌^◌, drop, length, reverse, take, true, false, IfOk, IfSome, IsSomeAnd, OnOk, OnErr, vec_len, vec_capacity};
 ghost use Rattle.acl_heap.specs.Objects.{object_of, Lies};
 ghost use Rattle.acl_heap.specs.Objects as objects;
 ghost use Rattle.acl_nodes.specs.Making.{Extends};
 ghost use Rattle.acl_nodes.specs.Nodes.{part_at};
 ghost use Rattle.acl_store.specs.Calls.{Creates, Cuts, Holds, IsArray, IsGeneral, IsInline, IsMany, IsObjectPut, IsParent, IsPut, IsSizedTo, IsTyped, IsWord, Lends, Measures, Reads, ReadsObject, Resizes, StayTyped, StayTypedIf, Writes, WritesObject};
-ghost use Rattle.acl_store.specs.Fields.{number_of};
-ghost use Rattle.acl_store.specs.Journals.{Begins, CreateRemembers, CutRemembers, Fit, IsNote, IsNoted, IsNotedAt, MayBeWritten, NoteRemembers, ObjectRemembers, ResizeRemembers, Restores, StayShaped, StayWritable, StepsBack, WriteRemembers};
-ghost use Rattle.acl_store.specs.Layouts.{AreLayouts};
-ghost use Rattle.acl_store.specs.Parts.{path_in};
-ghost use Rattle.acl_store.specs.Views.{view};
+ghost use Rattle.model_objects.specs.Object.{cells};
+ghost use Rattle.acl_fields.specs.Fields.{number_of, sized};
+ghost use Rattle.acl_fields.specs.Held.{nodes_cells, noted_cells, part_cells};
+ghost use Rattle.acl_fields.specs.Notes.{IsNote};
+ghost use Rattle.acl_store.specs.Counts.{IsCounted, cells_in, notes_cells};
+ghost use Rattle.acl_store.specs.Journals.{Begins, CreateRemembers, CutRemembers, Fit, IsNoted, IsNotedAt, MayBeWritten, NoteRemembers, ObjectRemembers, ResizeRemembers, Restores, StayShaped, StayWritable, StepsBack, WriteRemembers};
+ghost use Rattle.acl_fields.specs.Layouts.{AreLayouts};
+ghost use Rattle.acl_making.specs.Making.{NodeFor};
+ghost use Rattle.acl_fields.specs.Parts.{path_in};
+ghost use Rattle.acl_fields.specs.Views.{view};
 
-use crate::making::make;
-use crate::node::Node;
-use crate::notes::{Old, OldPart};
-use crate::slot::number;
+use crate::counting::{count_nodes, count_notes};
+use crate::notes::Old;
 use acl_base::{Layout, LayoutId, NodeId, Word};
+use acl_fields::{Node, OldPart, number};
 use acl_heap::Heap;
+use acl_making::make;
 use acl_owned::OwnedObject;
 use std::alloc::{AllocError, Global};
 
@@ -30,6 +35,7 @@ pub struct Store {
     pub(crate) notes: Vec<Old>,
     first: usize,
     is_open: bool,
+    pub(crate) held: u64,
 }
 
 impl Store {
@@ -39,6 +45,7 @@ impl Store {
         ensures holds { Holds (view result.nodes.items) (record { roots = []; places = [] }) }
         ensures closed { result.is_open ≡ false }
         ensures notes { result.notes.items ≡ [] }
+        ensures counted { IsCounted result.held (view result.nodes.items) result.notes.items }
     {
         let nodes = Vec::new(alloc);
         let notes = Vec::new(alloc);
@@ -48,10 +55,11 @@ impl Store {
             notes,
             first: 0,
             is_open: false,
+            held: 0,
         }
     }
 
-    /// A new object of the layout, whose children are new too. It is refused for want of memory alone, and then no node is left of it.
+    /// A new object of the layout, whose children are new too. It is refused for want of memory, or where too many cells would be held to be counted, and then no node is left of it.
     /// It takes time in the sum of the lengths of its arrays.
     pub fn create(
         &mut self,
@@ -61,6 +69,7 @@ impl Store {
     ) -> Result<NodeId, AllocError>
         requires layouts { AreLayouts heap.now layouts.now }
         requires id { id.0 < length layouts.now }
+        requires counted { IsCounted self.old.held (view self.old.nodes.items) self.old.notes.items }
         ensures created { IfOk result (λ n. Creates heap.now layouts.now id.0 (view self.old.nodes.items) (view self.new.nodes.items) n.0) }
         ensures typed { IfOk result (λ n. IsTyped layouts.now id.0 (view self.old.nodes.items) (view self.new.nodes.items) n.0) }
         ensures behind { IfOk result (λ n. Extends (view self.old.nodes.items) (view self.new.nodes.items)) }
@@ -69,15 +78,71 @@ impl Store {
         ensures notes { self.new.notes.items ≡ self.old.notes.items }
         ensures first { self.new.first ≡ self.old.first }
         ensures open { self.new.is_open ≡ self.old.is_open }
+        ensures counted { IsCounted self.new.held (view self.new.nodes.items) self.new.notes.items }
     {
         let before = self.nodes.len();
-        match make(&mut self.nodes, self.alloc, heap, layouts, id.0 as usize) {
+        match self.push_object(layouts, id.0 as usize, heap) {
             Ok(n) => Ok(NodeId(n as u64)),
             Err(e) => {
                 self.nodes.truncate(before);
                 Err(e)
             }
         }
+    }
+
+    // Pushes the nodes of a new object, and counts their cells. What is refused has pushed some.
+    fn push_object(
+        &mut self,
+        layouts: &[Layout],
+        id: usize,
+        heap: &Heap,
+    ) -> Result<usize, AllocError>
+        requires layouts { AreLayouts heap.now layouts.now }
+        requires id { id < length layouts.now }
+        requires counted { IsCounted self.old.held (view self.old.nodes.items) self.old.notes.items }
+        ensures made { IfOk result (λ c. NodeFor heap.now layouts.now id (view self.old.nodes.items) (view self.new.nodes.items) c) }
+        ensures kept { Extends (view self.old.nodes.items) (view self.new.nodes.items) }
+        ensures counted { OnOk result (IsCounted self.new.held (view self.new.nodes.items) self.new.notes.items) }
+        ensures refused { OnErr result (self.new.held ≡ self.old.held) }
+        ensures notes { self.new.notes.items ≡ self.old.notes.items }
+        ensures first { self.new.first ≡ self.old.first }
+        ensures open { self.new.is_open ≡ self.old.is_open }
+    {
+        let before = self.nodes.len();
+        let c = make(&mut self.nodes, self.alloc, heap, layouts, id)?;
+        match count_nodes(&self.nodes[before..], self.held) {
+            Some(held) => {
+                self.held = held;
+                Ok(c)
+            }
+            None => Err(AllocError),
+        }
+    }
+
+    /// How many cells the objects in fields and in the journal take. It takes no time.
+    pub fn held(&self) -> u64
+        requires { IsCounted self.now.held (view self.now.nodes.items) self.now.notes.items }
+        ensures { result ≡ cells_in (view self.now.nodes.items) self.now.notes.items }
+    {
+        self.held
+    }
+
+    // So many cells more than are held.
+    pub(crate) fn more(&self, count: u64) -> Result<u64, AllocError>
+        ensures { IfOk result (λ m. m ≡ self.now.held + count) }
+    {
+        match self.held.checked_add(count) {
+            Some(held) => Ok(held),
+            None => Err(AllocError),
+        }
+    }
+
+    // How many cells a field holds.
+    pub(crate) fn cells_at(&self, n: NodeId, field: u32) -> u64
+        requires { IsSomeAnd (part_at (view self.now.nodes.items) n.0 field) (λ p. part_cells p < 2 ^ 64) }
+        ensures { IfSome (part_at (view self.now.nodes.items) n.0 field) (λ p. result ≡ part_cells p) }
+    {
+        self.nodes[n.0 as usize].cells(field as usize)
     }
 
     /// The integer in a field: its own, or an element of its array.
@@ -92,6 +157,7 @@ impl Store {
     pub fn set_inline(&mut self, n: NodeId, field: u32, index: u32, w: Word)
         requires inline { IsInline (view self.old.nodes.items) n.0 field index }
         requires word { IsWord (view self.old.nodes.items) n.0 field w }
+        requires counted { IsCounted self.old.held (view self.old.nodes.items) self.old.notes.items }
         ensures written { Writes (view self.old.nodes.items) n.0 field index (number_of w) (view self.new.nodes.items) }
         ensures remembers { WriteRemembers (view self.old.nodes.items) (reverse self.old.notes.items) self.old.first n.0 field index (number_of w) (view self.new.nodes.items) }
         ensures put { IsPut (view self.old.nodes.items) n.0 field index (number_of w) (view self.new.nodes.items) }
@@ -99,6 +165,7 @@ impl Store {
         ensures notes { self.new.notes.items ≡ self.old.notes.items }
         ensures first { self.new.first ≡ self.old.first }
         ensures open { self.new.is_open ≡ self.old.is_open }
+        ensures counted { IsCounted self.new.held (view self.new.nodes.items) self.new.notes.items }
     {
         self.nodes[n.0 as usize].put(field as usize, index as usize, number(w));
     }
@@ -126,7 +193,7 @@ impl Store {
         }
     }
 
-    /// Another object in a field. It is refused for want of memory alone, and changes nothing then.
+    /// Another object in a field. It is refused for want of memory, or where too many cells would be held to be counted, and changes nothing then.
     /// On a node that was there when the journal was opened, the object that was in the field goes into the journal.
     #[tactic(auto, using(crate::proofs::KeepLemmas::stay_self, crate::proofs::ObjectLemmas::stay_noted_at, crate::proofs::ObjectLemmas::writes_object, crate::proofs::ObjectLemmas::object_typed, crate::proofs::ObjectLemmas::object_local, crate::proofs::ObjectLemmas::object_noted))]
     pub fn set_general(
@@ -139,6 +206,7 @@ impl Store {
     ) -> Result<(), AllocError>
         requires general { IsGeneral (view self.old.nodes.items) n.0 field index }
         requires word { Lies heap.now w }
+        requires counted { IsCounted self.old.held (view self.old.nodes.items) self.old.notes.items }
         ensures written { OnOk result (WritesObject (view self.old.nodes.items) n.0 field index (object_of heap.now w) (view self.new.nodes.items)) }
         ensures put { OnOk result (IsObjectPut (view self.old.nodes.items) n.0 field index (object_of heap.now w) (view self.new.nodes.items)) }
         ensures typed { OnOk result (StayTyped (view self.old.nodes.items) (view self.new.nodes.items)) }
@@ -149,28 +217,34 @@ impl Store {
         ensures notes { self.old.is_open ≡ false → self.new.notes.items ≡ self.old.notes.items }
         ensures first { self.new.first ≡ self.old.first }
         ensures open { self.new.is_open ≡ self.old.is_open }
+        ensures counted { IsCounted self.new.held (view self.new.nodes.items) self.new.notes.items }
     {
         let o = OwnedObject::put(self.alloc, heap, w)?;
+        let most = self.more(o.cells())?;
         if self.is_remembered(n) {
-            match self.set_noted(n, field, index, o) {
+            match self.set_noted(n, field, index, o, most) {
                 Ok(()) => Ok(()),
                 Err(e) => Err(e),
             }
         } else {
-            self.set_local(n, field, index, o);
+            self.set_local(n, field, index, o, most);
             Ok(())
         }
     }
 
-    // Another object in a field.
-    fn set_local(&mut self, n: NodeId, field: u32, index: u32, o: OwnedObject)
-        requires { IsGeneral (view self.old.nodes.items) n.0 field index }
+    // Another object in a field. With it there would be so many cells.
+    fn set_local(&mut self, n: NodeId, field: u32, index: u32, o: OwnedObject, most: u64)
+        requires general { IsGeneral (view self.old.nodes.items) n.0 field index }
+        requires counted { IsCounted self.old.held (view self.old.nodes.items) self.old.notes.items }
+        requires most { most ≡ self.old.held + cells o }
         ensures put { IsObjectPut (view self.old.nodes.items) n.0 field index o (view self.new.nodes.items) }
         ensures notes { self.new.notes.items ≡ self.old.notes.items }
         ensures first { self.new.first ≡ self.old.first }
         ensures open { self.new.is_open ≡ self.old.is_open }
+        ensures counted { IsCounted self.new.held (view self.new.nodes.items) self.new.notes.items }
     {
-        self.nodes[n.0 as usize].exchange(field as usize, index as usize, o);
+        let ended = self.nodes[n.0 as usize].exchange(field as usize, index as usize, o);
+        self.held = less(most, ended.cells());
     }
 
     // The same, and the object that was there goes into the journal.
@@ -180,18 +254,22 @@ impl Store {
         field: u32,
         index: u32,
         o: OwnedObject,
+        most: u64,
     ) -> Result<(), AllocError>
-        requires { IsGeneral (view self.old.nodes.items) n.0 field index }
+        requires general { IsGeneral (view self.old.nodes.items) n.0 field index }
+        requires counted { IsCounted self.old.held (view self.old.nodes.items) self.old.notes.items }
+        requires most { most ≡ self.old.held + cells o }
         ensures put { OnOk result (IsObjectPut (view self.old.nodes.items) n.0 field index o (view self.new.nodes.items)) }
         ensures noted { OnOk result (IsNotedAt (view self.old.nodes.items) n.0 field index self.old.notes.items self.new.notes.items) }
         ensures refused { OnErr result (view self.new.nodes.items ≡ view self.old.nodes.items) }
         ensures unnoted { OnErr result (self.new.notes.items ≡ self.old.notes.items) }
         ensures first { self.new.first ≡ self.old.first }
         ensures open { self.new.is_open ≡ self.old.is_open }
+        ensures counted { IsCounted self.new.held (view self.new.nodes.items) self.new.notes.items }
     {
         match self.notes.reserve(1) {
             Ok(()) => {
-                self.swap_noted(n, field, index, o);
+                self.swap_noted(n, field, index, o, most);
                 Ok(())
             }
             Err(e) => Err(e),
@@ -199,17 +277,21 @@ impl Store {
     }
 
     // The same, where there is room for the note.
-    fn swap_noted(&mut self, n: NodeId, field: u32, index: u32, o: OwnedObject)
+    fn swap_noted(&mut self, n: NodeId, field: u32, index: u32, o: OwnedObject, most: u64)
         requires general { IsGeneral (view self.old.nodes.items) n.0 field index }
         requires room { vec_len self.old.notes < vec_capacity self.old.notes }
+        requires counted { IsCounted self.old.held (view self.old.nodes.items) self.old.notes.items }
+        requires most { most ≡ self.old.held + cells o }
         ensures put { IsObjectPut (view self.old.nodes.items) n.0 field index o (view self.new.nodes.items) }
         ensures noted { IsNotedAt (view self.old.nodes.items) n.0 field index self.old.notes.items self.new.notes.items }
         ensures first { self.new.first ≡ self.old.first }
         ensures open { self.new.is_open ≡ self.old.is_open }
+        ensures counted { IsCounted self.new.held (view self.new.nodes.items) self.new.notes.items }
     {
         let node = &mut self.nodes[n.0 as usize];
         let old = node.exchange(field as usize, index as usize, o);
         self.keep(n, field, old);
+        self.held = most;
     }
 
     /// The number of elements or children.
@@ -228,11 +310,12 @@ impl Store {
         NodeId(self.nodes[n.0 as usize].child(field as usize, index as usize) as u64)
     }
 
-    /// Cuts an array, or lengthens it with what its elements began as. It is refused for want of memory alone, and changes nothing then.
+    /// Cuts an array, or lengthens it with what its elements began as. It is refused for want of memory, or where too many cells would be held to be counted, and changes nothing then.
     /// An array that was there when the journal was opened goes into the journal, and a copy takes its place.
     #[tactic(auto, using(crate::proofs::KeepLemmas::stay_self, crate::proofs::KeepLemmas::stay_noted, crate::proofs::KeepLemmas::sizes_local, crate::proofs::KeepLemmas::sizes_noted, crate::proofs::StoreLemmas::resizes, crate::proofs::StoreLemmas::size_typed))]
     pub fn resize(&mut self, n: NodeId, field: u32, len: u32, heap: &Heap) -> Result<(), AllocError>
-        requires { IsArray heap.now (view self.old.nodes.items) n.0 field }
+        requires array { IsArray heap.now (view self.old.nodes.items) n.0 field }
+        requires counted { IsCounted self.old.held (view self.old.nodes.items) self.old.notes.items }
         ensures elements { OnOk result (Resizes heap.now (view self.old.nodes.items) n.0 field len (view self.new.nodes.items)) }
         ensures sized { OnOk result (IsSizedTo heap.now (view self.old.nodes.items) n.0 field len (view self.new.nodes.items)) }
         ensures typed { OnOk result (StayTypedIf n.0 field (view self.old.nodes.items) (view self.new.nodes.items)) }
@@ -243,17 +326,35 @@ impl Store {
         ensures notes { self.old.is_open ≡ false → self.new.notes.items ≡ self.old.notes.items }
         ensures first { self.new.first ≡ self.old.first }
         ensures open { self.new.is_open ≡ self.old.is_open }
+        ensures counted { IsCounted self.new.held (view self.new.nodes.items) self.new.notes.items }
     {
+        let most = self.held_sized(n, field, len, heap)?;
         if self.is_remembered(n) {
-            match self.resize_noted(n, field, len, heap) {
+            match self.resize_noted(n, field, len, heap, most) {
                 Ok(()) => Ok(()),
                 Err(e) => Err(e),
             }
         } else {
-            match self.resize_local(n, field, len, heap) {
+            match self.resize_local(n, field, len, heap, most) {
                 Ok(()) => Ok(()),
                 Err(e) => Err(e),
             }
+        }
+    }
+
+    // How many cells there would be if an array were cut or lengthened, and the old one kept.
+    fn held_sized(&self, n: NodeId, field: u32, len: u32, heap: &Heap) -> Result<u64, AllocError>
+        requires { IsArray heap.now (view self.now.nodes.items) n.0 field }
+        ensures { IfOk result (λ m. IfSome (part_at (view self.now.nodes.items) n.0 field) (λ p. m ≡ self.now.held + part_cells (sized heap.now p len))) }
+    {
+        match self.nodes[n.0 as usize].counted_sized(
+            heap,
+            field as usize,
+            len as usize,
+            self.held,
+        ) {
+            Some(held) => Ok(held),
+            None => Err(AllocError),
         }
     }
 
@@ -276,16 +377,24 @@ impl Store {
         field: u32,
         len: u32,
         heap: &Heap,
+        most: u64,
     ) -> Result<(), AllocError>
-        requires { IsArray heap.now (view self.old.nodes.items) n.0 field }
+        requires array { IsArray heap.now (view self.old.nodes.items) n.0 field }
+        requires counted { IsCounted self.old.held (view self.old.nodes.items) self.old.notes.items }
+        requires most { IfSome (part_at (view self.old.nodes.items) n.0 field) (λ p. most ≡ self.old.held + part_cells (sized heap.now p len)) }
         ensures sized { OnOk result (IsSizedTo heap.now (view self.old.nodes.items) n.0 field len (view self.new.nodes.items)) }
         ensures refused { OnErr result (view self.new.nodes.items ≡ view self.old.nodes.items) }
         ensures notes { self.new.notes.items ≡ self.old.notes.items }
         ensures first { self.new.first ≡ self.old.first }
         ensures open { self.new.is_open ≡ self.old.is_open }
+        ensures counted { IsCounted self.new.held (view self.new.nodes.items) self.new.notes.items }
     {
+        let ended = self.cells_at(n, field);
         match self.nodes[n.0 as usize].stretch(self.alloc, heap, field as usize, len as usize) {
-            Ok(()) => Ok(()),
+            Ok(()) => {
+                self.held = less(most, ended);
+                Ok(())
+            }
             Err(e) => Err(e),
         }
     }
@@ -297,19 +406,24 @@ impl Store {
         field: u32,
         len: u32,
         heap: &Heap,
+        most: u64,
     ) -> Result<(), AllocError>
-        requires { IsArray heap.now (view self.old.nodes.items) n.0 field }
+        requires array { IsArray heap.now (view self.old.nodes.items) n.0 field }
+        requires counted { IsCounted self.old.held (view self.old.nodes.items) self.old.notes.items }
+        requires most { IfSome (part_at (view self.old.nodes.items) n.0 field) (λ p. most ≡ self.old.held + part_cells (sized heap.now p len)) }
         ensures sized { OnOk result (IsSizedTo heap.now (view self.old.nodes.items) n.0 field len (view self.new.nodes.items)) }
         ensures noted { OnOk result (IsNoted (view self.old.nodes.items) n.0 field self.old.notes.items self.new.notes.items) }
         ensures refused { OnErr result (view self.new.nodes.items ≡ view self.old.nodes.items) }
         ensures unnoted { OnErr result (self.new.notes.items ≡ self.old.notes.items) }
         ensures first { self.new.first ≡ self.old.first }
         ensures open { self.new.is_open ≡ self.old.is_open }
+        ensures counted { IsCounted self.new.held (view self.new.nodes.items) self.new.notes.items }
     {
         self.notes.reserve(1)?;
         match self.nodes[n.0 as usize].renew(self.alloc, heap, field as usize, len as usize) {
             Ok(slot) => {
                 self.keep(n, field, OldPart::Whole(slot));
+                self.held = most;
                 Ok(())
             }
             Err(e) => Err(e),
@@ -323,6 +437,7 @@ impl Store {
         ensures nodes { self.new.nodes.items ≡ self.old.nodes.items }
         ensures first { self.new.first ≡ self.old.first }
         ensures open { self.new.is_open ≡ self.old.is_open }
+        ensures held { self.new.held ≡ self.old.held }
     {
         let old = Old {
             node: n.0 as usize,
@@ -344,7 +459,8 @@ impl Store {
 
     /// Ends every node from `m` on. It takes no memory.
     pub fn cut_to(&mut self, m: NodeId)
-        requires { m.0 ≤ length (view self.old.nodes.items) }
+        requires below { m.0 ≤ length (view self.old.nodes.items) }
+        requires counted { IsCounted self.old.held (view self.old.nodes.items) self.old.notes.items }
         ensures nodes { view self.new.nodes.items ≡ take m.0 (view self.old.nodes.items) }
         ensures cut { Cuts (view self.old.nodes.items) m.0 (view self.new.nodes.items) }
         ensures remembers { CutRemembers (view self.old.nodes.items) (reverse self.old.notes.items) self.old.first m.0 (view self.new.nodes.items) }
@@ -352,21 +468,26 @@ impl Store {
         ensures notes { self.new.notes.items ≡ self.old.notes.items }
         ensures first { self.new.first ≡ self.old.first }
         ensures open { self.new.is_open ≡ self.old.is_open }
+        ensures counted { IsCounted self.new.held (view self.new.nodes.items) self.new.notes.items }
     {
+        let gone = self.cells_from(m);
+        self.held = less(self.held, gone);
         self.nodes.truncate(m.0 as usize);
     }
 
     /// Opens the journal, and keeps the next node number. It takes no memory.
     #[tactic(auto, using(crate::proofs::JournalLemmas::begun))]
     pub fn begin(&mut self)
-        requires { self.old.is_open ≡ false }
+        requires closed { self.old.is_open ≡ false }
+        requires counted { IsCounted self.old.held (view self.old.nodes.items) self.old.notes.items }
         ensures open { self.new.is_open ≡ true }
         ensures nodes { self.new.nodes.items ≡ self.old.nodes.items }
         ensures first { self.new.first ≡ length (view self.new.nodes.items) }
         ensures begins { Begins (view self.new.nodes.items) (reverse self.new.notes.items) self.new.first }
         ensures notes { self.new.notes.items ≡ [] }
+        ensures counted { IsCounted self.new.held (view self.new.nodes.items) self.new.notes.items }
     {
-        self.notes.truncate(0);
+        self.forget_notes();
         self.first = self.nodes.len();
         self.is_open = true;
     }
@@ -377,6 +498,7 @@ impl Store {
         ensures node { result.node ≡ n.0 }
         ensures field { result.field ≡ field }
         ensures note { IfSome (part_at (view self.now.nodes.items) n.0 field) (λ p. IsNote result.part p index) }
+        ensures none { noted_cells result.part ≡ 0 }
     {
         Old {
             node: n.0 as usize,
@@ -390,12 +512,15 @@ impl Store {
     pub fn note_inline(&mut self, n: NodeId, field: u32, index: u32) -> Result<(), AllocError>
         requires open { self.old.is_open ≡ true }
         requires inline { IsInline (view self.old.nodes.items) n.0 field index }
+        requires counted { IsCounted self.old.held (view self.old.nodes.items) self.old.notes.items }
         ensures open { self.new.is_open ≡ true }
         ensures nodes { self.new.nodes.items ≡ self.old.nodes.items }
         ensures first { self.new.first ≡ self.old.first }
         ensures noted { OnOk result (IfSome (part_at (view self.old.nodes.items) n.0 field) (λ p. MayBeWritten (reverse self.new.notes.items) self.new.first n.0 (path_in p field index))) }
         ensures remembers { NoteRemembers (view self.old.nodes.items) (reverse self.old.notes.items) self.old.first (reverse self.new.notes.items) }
         ensures writable { StayWritable (reverse self.old.notes.items) self.old.first (reverse self.new.notes.items) }
+        ensures refused { OnErr result (self.new.notes.items ≡ self.old.notes.items) }
+        ensures counted { IsCounted self.new.held (view self.new.nodes.items) self.new.notes.items }
     {
         if n.0 as usize >= self.first {
             return Ok(());
@@ -405,28 +530,72 @@ impl Store {
         Ok(())
     }
 
-    // Puts a note behind the others.
+    // Puts a note of an integer behind the others.
     fn note(&mut self, old: Old) -> Result<(), AllocError>
+        requires none { noted_cells old.part ≡ 0 }
+        requires counted { IsCounted self.old.held (view self.old.nodes.items) self.old.notes.items }
         ensures noted { OnOk result (self.new.notes.items ≡ self.old.notes.items ++ old ∷ []) }
         ensures refused { OnErr result (self.new.notes.items ≡ self.old.notes.items) }
         ensures nodes { self.new.nodes.items ≡ self.old.nodes.items }
         ensures first { self.new.first ≡ self.old.first }
         ensures open { self.new.is_open ≡ self.old.is_open }
+        ensures counted { IsCounted self.new.held (view self.new.nodes.items) self.new.notes.items }
     {
         match self.notes.push(old) {
             Ok(()) => Ok(()),
-            Err(_) => Err(AllocError),
+            Err(_refused) => Err(AllocError),
         }
+    }
+
+    // How many cells the nodes from one on hold.
+    fn cells_from(&self, m: NodeId) -> u64
+        requires below { m.0 ≤ length (view self.now.nodes.items) }
+        requires counted { IsCounted self.now.held (view self.now.nodes.items) self.now.notes.items }
+        ensures { result ≡ nodes_cells (view (drop m.0 self.now.nodes.items)) }
+    {
+        is_word(self.held);
+        match count_nodes(&self.nodes[m.0 as usize..], 0) {
+            Some(gone) => gone,
+            None => unreachable!(),
+        }
+    }
+
+    // How many cells the notes hold.
+    fn cells_noted(&self) -> u64
+        requires { IsCounted self.now.held (view self.now.nodes.items) self.now.notes.items }
+        ensures { result ≡ notes_cells self.now.notes.items }
+    {
+        is_word(self.held);
+        match count_notes(&self.notes, 0) {
+            Some(gone) => gone,
+            None => unreachable!(),
+        }
+    }
+
+    // Ends all notes.
+    fn forget_notes(&mut self)
+        requires counted { IsCounted self.old.held (view self.old.nodes.items) self.old.notes.items }
+        ensures notes { self.new.notes.items ≡ [] }
+        ensures nodes { self.new.nodes.items ≡ self.old.nodes.items }
+        ensures first { self.new.first ≡ self.old.first }
+        ensures open { self.new.is_open ≡ self.old.is_open }
+        ensures counted { IsCounted self.new.held (view self.new.nodes.items) self.new.notes.items }
+    {
+        let gone = self.cells_noted();
+        self.held = less(self.held, gone);
+        self.notes.truncate(0);
     }
 
     /// Closes the journal. It takes no memory.
     pub fn commit(&mut self)
-        requires { self.old.is_open ≡ true }
+        requires open { self.old.is_open ≡ true }
+        requires counted { IsCounted self.old.held (view self.old.nodes.items) self.old.notes.items }
         ensures closed { self.new.is_open ≡ false }
         ensures nodes { self.new.nodes.items ≡ self.old.nodes.items }
         ensures notes { self.new.notes.items ≡ [] }
+        ensures counted { IsCounted self.new.held (view self.new.nodes.items) self.new.notes.items }
     {
-        self.notes.truncate(0);
+        self.forget_notes();
         self.is_open = false;
     }
 
@@ -435,9 +604,12 @@ impl Store {
     pub fn abandon(&mut self)
         requires open { self.old.is_open ≡ true }
         requires fit { Fit (view self.old.nodes.items) (reverse self.old.notes.items) }
+        requires counted { IsCounted self.old.held (view self.old.nodes.items) self.old.notes.items }
         ensures closed { self.new.is_open ≡ false }
+        ensures notes { self.new.notes.items ≡ [] }
         ensures shaped { StayShaped (view self.old.nodes.items) (view self.new.nodes.items) }
         ensures restores { Restores (view self.old.nodes.items) (reverse self.old.notes.items) self.old.first (view self.new.nodes.items) }
+        ensures counted { IsCounted self.new.held (view self.new.nodes.items) self.new.notes.items }
     {
         while self.put_back_newest() {}
         self.is_open = false;
@@ -446,18 +618,34 @@ impl Store {
     // Puts the newest note back, where there is one.
     #[tactic(auto, using(crate::proofs::JournalLemmas::steps_self))]
     fn put_back_newest(&mut self) -> bool
-        requires { Fit (view self.old.nodes.items) (reverse self.old.notes.items) }
+        requires fit { Fit (view self.old.nodes.items) (reverse self.old.notes.items) }
+        requires counted { IsCounted self.old.held (view self.old.nodes.items) self.old.notes.items }
         ensures first { self.new.first ≡ self.old.first }
         ensures steps { StepsBack (view self.old.nodes.items) (reverse self.old.notes.items) (view self.new.nodes.items) (reverse self.new.notes.items) }
         ensures over { result ≡ false → self.new.notes.items ≡ [] }
         ensures fewer { result ≡ true → length self.new.notes.items < length self.old.notes.items }
+        ensures counted { IsCounted self.new.held (view self.new.nodes.items) self.new.notes.items }
     {
         match self.notes.pop() {
             None => false,
             Some(old) => {
-                self.nodes[old.node].back(old.field, old.part);
+                is_word(self.held);
+                let gone = self.nodes[old.node].back(old.field, old.part);
+                self.held = less(self.held, gone);
                 true
             }
         }
     }
 }
+
+pub(crate) fn less(held: u64, gone: u64) -> u64
+    requires { gone ≤ held }
+    ensures { result ≡ held - gone }
+{
+    held - gone
+}
+
+// What holds of every number. It does nothing when it runs.
+pub(crate) fn is_word(_held: u64)
+    ensures { _held < 2 ^ 64 }
+{}

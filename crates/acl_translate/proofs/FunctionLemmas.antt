@@ -21,13 +21,14 @@ use Rattle.acl_terms.specs.declared.form.Core.{Core}
 use Rattle.acl_terms.specs.Forms.{numbers, seen_core}
 use Rattle.acl_outputs.proofs.ListLemmas.{left_at}
 use Rattle.acl_code.specs.declared.term.Term.{Term}
+use Rattle.acl_code.specs.Constants.{ConstantsAreKnown}
 use Rattle.acl_code.specs.Sizes.{Fits}
 use Rattle.acl_code.specs.Tables.{tree_at, Grown, TermsLie, IsBuilt}
 use Rattle.acl_code.proofs.TableLemmas.{tree_later, grown_same, grown_then}
 use Rattle.acl_check.specs.declared.member.Member.{Member}
 use Rattle.acl_check.specs.Members.{seen_member, seen_members}
 use Rattle.acl_translate.specs.declared.function_terms.FunctionTerms.{FunctionTerms}
-use Rattle.acl_translate.specs.Functions.{formal_tree, function_trees, all_function_trees, seen_function_terms, InTable, FunctionsStand, HasTrees, IsFunction, AreFunctions}
+use Rattle.acl_translate.specs.Functions.{formal_tree, function_trees, all_function_trees, seen_function_terms, InTable, FunctionsStand, HasTrees, IsFunction, AreFunctions, MemberIsKnown}
 
 -- ---- accepted forms have trees
 
@@ -124,10 +125,14 @@ in_push : (ts : List Term) (fs : List FunctionTerms) (f : FunctionTerms) → All
 in_push ts [] f a l = (l, tt)
 in_push ts (i ∷ fs) f a l = (a.0, in_push ts fs f a.1 l)
 
+pub member_known : (n : ℕ) (h : Objects) (all : List Member) (i : ℕ) (m : Member) → i < length all → m ≡ get_or all i m → All (MemberIsKnown n h) all → MemberIsKnown n h m
+member_known n h all i m l e k = subst (λ (x : Member). MemberIsKnown n h x) (sym e) (k i m l)
+
 -- the terms of functions so far, and the functions that are left
 pub record FunctionsSoFar (h : Objects) (w : World) (start now : List Term) (all left : List Member) (found : List FunctionTerms) : Type 0 where
   pub grows : Grown start now
   pub words : TermsLie h now
+  pub known : (n : ℕ) → 1 < n → All (MemberIsKnown n h) all → ConstantsAreKnown n h start → ConstantsAreKnown n h now
   pub within : AllByRecursion (InTable now) found
   pub are : all_function_trees w (seen_members h all) ≡ functions_then (map (seen_function_terms h now) found) (all_function_trees w (seen_members h left))
 
@@ -135,6 +140,7 @@ pub functions_start : (h : Objects) (w : World) (start : List Term) (all : List 
 functions_start h w start all l = record {
   grows = grown_same start;
   words = l;
+  known = λ n b k c. c;
   within = tt;
   are = then_nothing (all_function_trees w (seen_members h all));
 }
@@ -148,12 +154,14 @@ module _ (h : Objects) (w : World) (start now new : List Term) (all : List Membe
       ∙ (ap (λ k. functions_then (map (seen_function_terms h now) found) (all_function_trees w (seen_members h (k ∷ drop (i + 1) all)))) (sym em)
       ∙ ap (λ r. functions_then (map (seen_function_terms h now) found) (both (λ trees others. trees ∷ others) r (all_function_trees w (seen_members h (drop (i + 1) all))))) (sym b.is)))
 
-  pub functions_step : (more_found : List FunctionTerms) → Grown now new → TermsLie h new → more_found ≡ found ++ f ∷ []
+  pub functions_step : (more_found : List FunctionTerms) → Grown now new → TermsLie h new
+      → ((n : ℕ) → 1 < n → MemberIsKnown n h m → ConstantsAreKnown n h now → ConstantsAreKnown n h new) → more_found ≡ found ++ f ∷ []
       → FunctionsSoFar h w start new all (drop (i + 1) all) more_found
-  functions_step more_found g lies ef =
+  functions_step more_found g lies known ef =
       let r : FunctionsSoFar h w start new all (drop (i + 1) all) (found ++ f ∷ []) = record {
         grows = grown_then start now new s.grows g;
         words = lies;
+        known = λ n b k c. known n b (member_known n h all i m l em k) (s.known n b k c);
         within = in_push new found f (all_in_later now new found g s.within) b.within;
         are = on ∙ (then_one (map (seen_function_terms h now) found) (seen_function_terms h new f) (all_function_trees w (seen_members h (drop (i + 1) all)))
             ∙ (ap (λ ts. functions_then (ts ++ seen_function_terms h new f ∷ []) (all_function_trees w (seen_members h (drop (i + 1) all)))) (sym (all_seen_later h now new found g s.within))

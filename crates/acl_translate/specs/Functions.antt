@@ -11,6 +11,7 @@ use Rattle.model_slots.specs.Resolved.{both, resolved}
 use Rattle.model_slots_laws.specs.Standing.{functions_stand}
 use Rattle.acl_terms.specs.Forms.{numbers, seen_core}
 use Rattle.acl_code.specs.declared.term.Term.{Term}
+use Rattle.acl_code.specs.Constants.{FormIsKnown}
 use Rattle.acl_code.specs.Sizes.{Fits}
 use Rattle.acl_code.specs.Tables.{tree_at}
 use Rattle.acl_check.specs.declared.member.Member.{Member}
@@ -69,3 +70,10 @@ pub record HasTrees (h : Objects) (w : World) (m : Member) : Type 0 where
 pub record HasRoom (h : Objects) (m : Member) : Type 0 where
   pub guard : Fits h (length m.formals) m.guard
   pub body : Fits h (length m.formals) m.body
+
+-- ---- symbols
+
+-- the constants in a function's guard and body have symbols below n
+pub record MemberIsKnown (n : ℕ) (h : Objects) (m : Member) : Type 0 where
+  pub guard : FormIsKnown n (seen_core h m.guard)
+  pub body : FormIsKnown n (seen_core h m.body)

@@ -1,8 +1,9 @@
 //! The term of a form that has a tree.
 
-ghost use Rattle.std.specs.Prelude.{◌≡◌, length, true, Some, is_some, IfOk, OnErr};
+ghost use Rattle.std.specs.Prelude.{◌≡◌, ◌<◌, ℕ, length, true, Some, is_some, IfOk, OnErr};
 ghost use Rattle.acl_terms.specs.Forms.{numbers, seen_core};
 ghost use Rattle.acl_worlds.specs.Contents.{seen_world};
+ghost use Rattle.acl_code.specs.Constants.{ConstantsAreKnown, FormIsKnown};
 ghost use Rattle.acl_code.specs.Sizes as code;
 ghost use Rattle.acl_code.specs.Tables.{Grown, TermsLie, IsBuilt};
 ghost use Rattle.acl_translate.specs.Functions.{formal_tree};
@@ -31,6 +32,7 @@ pub fn build_tree(
     ensures err { OnErr result (terms.new ≡ terms.old) }
     ensures grows { Grown terms.old terms.new }
     ensures words { TermsLie heap.now terms.new }
+    ensures known { (n : ℕ) → 1 < n → FormIsKnown n (seen_core heap.now core.now) → ConstantsAreKnown n heap.now terms.old → ConstantsAreKnown n heap.now terms.new }
 {
     match build(alloc, terms, world, heap, names, core) {
         Ok(built) => match built {

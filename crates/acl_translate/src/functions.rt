@@ -1,11 +1,12 @@
 //! Functions that are admitted together, and macros, with their terms.
 
-ghost use Rattle.std.specs.Prelude.{◌≡◌, ◌≤◌, ◌^◌, length, true, Some, None, is_some, IfOk, IfErr, OnOk, OnErr};
+ghost use Rattle.std.specs.Prelude.{◌≡◌, ◌<◌, ◌≤◌, ℕ, ◌^◌, length, true, Some, None, is_some, IfOk, IfErr, OnOk, OnErr};
 ghost use Rattle.std.specs.List.{All};
 ghost use Rattle.model_terms.specs.Faults.{clique_fault, formal_names, macro_fault};
 ghost use Rattle.acl_terms.specs.Definitions.{seen_formals};
 ghost use Rattle.acl_terms.specs.Forms.{seen_core};
 ghost use Rattle.acl_worlds.specs.Contents.{seen_world};
+ghost use Rattle.acl_code.specs.Constants.{ConstantsAreKnown, FormIsKnown};
 ghost use Rattle.acl_code.specs.Sizes as code;
 ghost use Rattle.acl_code.specs.Tables.{Grown, TermsLie, IsBuilt};
 ghost use Rattle.acl_thread.specs.Sizes as thread;
@@ -13,7 +14,7 @@ ghost use Rattle.acl_terms.specs.declared.fault.ThreadFault.TheVariants.{Memory}
 ghost use Rattle.acl_check.specs.Members.{seen_member, seen_members, FitsMember};
 ghost use Rattle.acl_check.specs.Says.{Says};
 ghost use Rattle.model_slots_laws.specs.Standing.{functions_stand};
-ghost use Rattle.acl_translate.specs.Functions.{formal_tree, function_trees, all_function_trees, HasRoom, FunctionsStand, HasTrees, IsFunction, AreFunctions};
+ghost use Rattle.acl_translate.specs.Functions.{formal_tree, function_trees, all_function_trees, HasRoom, FunctionsStand, HasTrees, IsFunction, AreFunctions, MemberIsKnown};
 
 use crate::building::build_tree;
 use crate::function_terms::FunctionTerms;
@@ -41,6 +42,7 @@ fn build_function(
     ensures built { IfOk result (λ f. IsFunction heap.now terms.new f (function_trees (seen_world heap.now world.now) (seen_member heap.now member.now))) }
     ensures grows { Grown terms.old terms.new }
     ensures words { TermsLie heap.now terms.new }
+    ensures known { (n : ℕ) → 1 < n → MemberIsKnown n heap.now member.now → ConstantsAreKnown n heap.now terms.old → ConstantsAreKnown n heap.now terms.new }
 {
     let formals = member.formals.as_slice();
     let guard = build_tree(alloc, terms, world, heap, formals, &member.guard)?;
@@ -63,6 +65,7 @@ fn build_functions(
     ensures built { IfOk result (λ r. AreFunctions heap.now terms.new r (all_function_trees (seen_world heap.now world.now) (seen_members heap.now members.now))) }
     ensures grows { Grown terms.old terms.new }
     ensures words { TermsLie heap.now terms.new }
+    ensures known { (n : ℕ) → 1 < n → All (MemberIsKnown n heap.now) members.now → ConstantsAreKnown n heap.now terms.old → ConstantsAreKnown n heap.now terms.new }
 {
     let mut found = Items::new(alloc);
     for member in members {
@@ -88,6 +91,7 @@ fn build_clique(
     ensures unchanged { OnErr result (terms.new ≡ terms.old) }
     ensures grows { Grown terms.old terms.new }
     ensures words { TermsLie heap.now terms.new }
+    ensures known { (n : ℕ) → 1 < n → All (MemberIsKnown n heap.now) members.now → ConstantsAreKnown n heap.now terms.old → ConstantsAreKnown n heap.now terms.new }
 {
     let mark = terms.len();
     match build_functions(alloc, terms, world, heap, members) {
@@ -121,6 +125,7 @@ pub fn translate_clique(
     ensures unchanged { OnErr result (terms.new ≡ terms.old) }
     ensures grows { Grown terms.old terms.new }
     ensures words { TermsLie heap.now terms.new }
+    ensures known { (n : ℕ) → 1 < n → All (MemberIsKnown n heap.now) members.now → ConstantsAreKnown n heap.now terms.old → ConstantsAreKnown n heap.now terms.new }
 {
     match check_clique(alloc, world, heap, members) {
         Ok(()) => match build_clique(alloc, terms, world, heap, members) {
@@ -148,6 +153,7 @@ fn build_macro(
     ensures err { OnErr result (terms.new ≡ terms.old) }
     ensures grows { Grown terms.old terms.new }
     ensures words { TermsLie heap.now terms.new }
+    ensures known { (n : ℕ) → 1 < n → FormIsKnown n (seen_core heap.now body.now) → ConstantsAreKnown n heap.now terms.old → ConstantsAreKnown n heap.now terms.new }
 {
     let names = formal_names(alloc, heap, formals)?;
     match build_tree(alloc, terms, world, heap, names.as_slice(), body) {
@@ -176,6 +182,7 @@ pub fn translate_macro(
     ensures unchanged { OnErr result (terms.new ≡ terms.old) }
     ensures grows { Grown terms.old terms.new }
     ensures words { TermsLie heap.now terms.new }
+    ensures known { (n : ℕ) → 1 < n → FormIsKnown n (seen_core heap.now body.now) → ConstantsAreKnown n heap.now terms.old → ConstantsAreKnown n heap.now terms.new }
 {
     match check_macro(alloc, world, heap, formals, body) {
         Ok(()) => match build_macro(alloc, terms, world, heap, formals, body) {

@@ -1,10 +1,11 @@
 //! A form that is accepted, and its term.
 
-ghost use Rattle.std.specs.Prelude.{◌≡◌, length, [], true, Some, None, IfOk, IfErr, OnOk, OnErr};
+ghost use Rattle.std.specs.Prelude.{◌≡◌, ◌<◌, ℕ, length, [], true, Some, None, IfOk, IfErr, OnOk, OnErr};
 ghost use Rattle.model_terms.specs.Faults.{first_fault, expression_fault, constant_fault};
 ghost use Rattle.acl_terms.specs.Forms.{numbers, seen_core};
 ghost use Rattle.acl_terms.specs.Signatures.{seen_outs, seen_scope};
 ghost use Rattle.acl_worlds.specs.Contents.{seen_world};
+ghost use Rattle.acl_code.specs.Constants.{ConstantsAreKnown, FormIsKnown};
 ghost use Rattle.acl_code.specs.Sizes as code;
 ghost use Rattle.acl_code.specs.Tables.{Grown, TermsLie, IsBuilt};
 ghost use Rattle.acl_thread.specs.Sizes as thread;
@@ -45,6 +46,7 @@ pub fn translate(
     ensures unchanged { OnErr result (terms.new ≡ terms.old) }
     ensures grows { Grown terms.old terms.new }
     ensures words { TermsLie heap.now terms.new }
+    ensures known { (n : ℕ) → 1 < n → FormIsKnown n (seen_core heap.now core.now) → ConstantsAreKnown n heap.now terms.old → ConstantsAreKnown n heap.now terms.new }
 {
     match check_form(alloc, world, heap, mode, scope, core, expected) {
         Ok(()) => match build_tree(alloc, terms, world, heap, names, core) {
@@ -76,6 +78,7 @@ pub fn translate_expression(
     ensures unchanged { OnErr result (terms.new ≡ terms.old) }
     ensures grows { Grown terms.old terms.new }
     ensures words { TermsLie heap.now terms.new }
+    ensures known { (n : ℕ) → 1 < n → FormIsKnown n (seen_core heap.now core.now) → ConstantsAreKnown n heap.now terms.old → ConstantsAreKnown n heap.now terms.new }
 {
     match check_expression(alloc, world, heap, scope, core) {
         Ok(()) => match build_tree(alloc, terms, world, heap, names, core) {
@@ -104,6 +107,7 @@ pub fn translate_constant(
     ensures unchanged { OnErr result (terms.new ≡ terms.old) }
     ensures grows { Grown terms.old terms.new }
     ensures words { TermsLie heap.now terms.new }
+    ensures known { (n : ℕ) → 1 < n → FormIsKnown n (seen_core heap.now core.now) → ConstantsAreKnown n heap.now terms.old → ConstantsAreKnown n heap.now terms.new }
 {
     match check_constant(alloc, world, heap, core) {
         Ok(()) => match build_tree(alloc, terms, world, heap, &[], core) {

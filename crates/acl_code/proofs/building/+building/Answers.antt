@@ -6,6 +6,7 @@ use Rattle.acl_terms.specs.Forms.{numbers, bound_names}
 use Rattle.acl_worlds.specs.Contents.{seen_world}
 use Rattle.acl_code.proofs.TableLemmas.{grown_then}
 use Rattle.acl_code.proofs.SizeLemmas.{const_fits, names_room, stobj_let_children, part_fits, bound_fits, part_slot, bound_slot, part_below, binding_below, if_test, if_test_below, if_then, if_then_below, if_other, if_other_below, let_bound, let_bound_below, let_body, let_body_below, mv_parts, mv_parts_below, mv_let_bound, mv_let_bound_below, mv_let_body, mv_let_body_below, stobj_let_producer, stobj_let_producer_below, stobj_let_consumer, stobj_let_consumer_below, with_local_producer, with_local_producer_below, with_local_body, with_local_body_below, must_be_equal_logic, must_be_equal_logic_below, call_actuals, call_actuals_below}
+use Rattle.acl_code.proofs.ConstantLemmas.{part_known, binding_known, known_const, known_test, known_then, known_other, known_let_bound, known_let_body, known_mv_parts, known_mv_let_bound, known_mv_let_body, known_lent, known_lent_producer, known_consumer, known_local_producer, known_local_body, known_logic, known_actuals}
 use Rattle.acl_code.proofs.BuildLemmas.{within_later, all_later, var_arm, const_arm, if_arm, let_arm, mv_arm, mv_let_arm, stobj_let_arm, with_local_arm, must_be_equal_arm, call_arm, behind_ordinary, behind_all, fits_behind, fits_under, parts_start, parts_step, parts_nothing, parts_end, part_left, parts_past, binding_left, bindings_past}
 use Rattle.acl_code.proofs.building.+building.Goals as goal
 
@@ -273,7 +274,9 @@ build_parts-returns-in-None-clause-built t c =
 
 pub build_parts-loop-i-preserved : goal.build_parts-loop-i-preserved
 build_parts-loop-i-preserved t c =
-    parts_step _ _ _ _ _ _ _ _ _ _ _ _ _ c.loop-i.invariant (part_left _ _ _ _ c.loop-i-test.true c.index-parts-i.is) _ _ _ _ _ _ c.slot_behind-slot.ensures c.in-Some.is c.in_ok-t.ensures.environment c.in_ok-t.ensures.grows c.in_ok-t.ensures.words c.in_ok-t.ensures.built c.in_ok-push-in-Some.ensures.ok
+    parts_step _ _ _ _ _ _ _ _ _ _ _ _ _ c.loop-i.invariant (part_left _ _ _ _ c.loop-i-test.true c.index-parts-i.is) _ _ _ _ _ _ c.slot_behind-slot.ensures c.in-Some.is c.in_ok-t.ensures.environment c.in_ok-t.ensures.grows c.in_ok-t.ensures.words
+    (λ n b k o. c.in_ok-t.ensures.known n b (part_known n c.args.heap.now c.args.parts.now c.loop-i.i _ c.index-parts-i.result c.loop-i-test.true c.index-parts-i.is k) o)
+    c.in_ok-t.ensures.built c.in_ok-push-in-Some.ensures.ok
 
 pub build_parts-returns-clause-built : goal.build_parts-returns-clause-built
 build_parts-returns-clause-built t c =
@@ -306,7 +309,9 @@ build_bound-returns-in-None-clause-built t c =
 
 pub build_bound-loop-i-preserved : goal.build_bound-loop-i-preserved
 build_bound-loop-i-preserved t c =
-    parts_step _ _ _ _ _ _ _ _ _ _ _ _ _ c.loop-i.invariant (binding_left _ _ _ _ c.loop-i-test.true c.index-bindings-i.is) _ _ _ _ _ _ c.slot_behind-slot.ensures c.in-Some.is c.in_ok-t.ensures.environment c.in_ok-t.ensures.grows c.in_ok-t.ensures.words c.in_ok-t.ensures.built c.in_ok-push-in-Some.ensures.ok
+    parts_step _ _ _ _ _ _ _ _ _ _ _ _ _ c.loop-i.invariant (binding_left _ _ _ _ c.loop-i-test.true c.index-bindings-i.is) _ _ _ _ _ _ c.slot_behind-slot.ensures c.in-Some.is c.in_ok-t.ensures.environment c.in_ok-t.ensures.grows c.in_ok-t.ensures.words
+    (λ n b k o. c.in_ok-t.ensures.known n b (binding_known n c.args.heap.now c.args.bindings.now c.loop-i.i _ c.index-bindings-i.result c.loop-i-test.true c.index-bindings-i.is k) o)
+    c.in_ok-t.ensures.built c.in_ok-push-in-Some.ensures.ok
 
 pub build_bound-returns-clause-built : goal.build_bound-returns-clause-built
 build_bound-returns-clause-built t c =
@@ -412,3 +417,207 @@ pub build_bound-build_in-requires : goal.build_bound-build_in-requires
 build_bound-build_in-requires t c =
     let below = binding_below c.args.heap.now c.args.bindings.now c.loop-i.i c.index-bindings-i.result c.loop-i-test.true c.index-bindings-i.is in
     (omega (arith, c.decreases, below), (c.loop-i.invariant.words, bound_fits c.args.heap.now c.args.at c.args.bindings.now c.loop-i.i _ c.index-bindings-i.result c.requires.fits c.loop-i-test.true c.index-bindings-i.is c.slot_behind-slot.ensures))
+
+pub build_in-returns-in_err-t-in-Var-clause-known : goal.build_in-returns-in_err-t-in-Var-clause-known
+build_in-returns-in_err-t-in-Var-clause-known t c =
+    λ n b k o. c.in_err-t-in-Var.ensures.known n (c.variable_operand-variable.ensures.known n b) o
+
+pub build_in-returns-in_ok-t-in-Var-clause-known : goal.build_in-returns-in_ok-t-in-Var-clause-known
+build_in-returns-in_ok-t-in-Var-clause-known t c =
+    λ n b k o. c.in_ok-t-in-Var.ensures.known n (c.variable_operand-variable.ensures.known n b) o
+
+pub build_in-returns-in_err-t-in-Const-clause-known : goal.build_in-returns-in_err-t-in-Const-clause-known
+build_in-returns-in_err-t-in-Const-clause-known t c =
+    λ n b k o. c.in_err-t-in-Const.ensures.known n (known_const n c.args.heap.now c.args.core.now _ c.in-Const.is k) o
+
+pub build_in-returns-in_ok-t-in-Const-clause-known : goal.build_in-returns-in_ok-t-in-Const-clause-known
+build_in-returns-in_ok-t-in-Const-clause-known t c =
+    λ n b k o. c.in_ok-t-in-Const.ensures.known n (known_const n c.args.heap.now c.args.core.now _ c.in-Const.is k) o
+
+pub build_in-returns-in_err-test-in-If-clause-known : goal.build_in-returns-in_err-test-in-If-clause-known
+build_in-returns-in_err-test-in-If-clause-known t c =
+    λ n b k o. c.in_err-test-in-If.ensures.known n b (known_test n c.args.heap.now c.args.core.now _ _ _ _ c.in-If.is c.get.ensures k) o
+
+pub build_in-returns-in_err-then-in-If-clause-known : goal.build_in-returns-in_err-then-in-If-clause-known
+build_in-returns-in_err-then-in-If-clause-known t c =
+    λ n b k o. c.in_err-then-in-If.ensures.known n b (known_then n c.args.heap.now c.args.core.now _ _ _ _ c.in-If.is c.get-in-If.ensures k) (c.in_ok-test-in-If.ensures.known n b (known_test n c.args.heap.now c.args.core.now _ _ _ _ c.in-If.is c.get.ensures k) o)
+
+pub build_in-returns-in_err-other-in-If-clause-known : goal.build_in-returns-in_err-other-in-If-clause-known
+build_in-returns-in_err-other-in-If-clause-known t c =
+    λ n b k o. c.in_err-other-in-If.ensures.known n b (known_other n c.args.heap.now c.args.core.now _ _ _ _ c.in-If.is c.get-in-If-2.ensures k) (c.in_ok-then-in-If.ensures.known n b (known_then n c.args.heap.now c.args.core.now _ _ _ _ c.in-If.is c.get-in-If.ensures k) (c.in_ok-test-in-If.ensures.known n b (known_test n c.args.heap.now c.args.core.now _ _ _ _ c.in-If.is c.get.ensures k) o))
+
+pub build_in-returns-in_err-t-in-If-clause-known : goal.build_in-returns-in_err-t-in-If-clause-known
+build_in-returns-in_err-t-in-If-clause-known t c =
+    λ n b k o. c.in_err-t-in-If.ensures.known n (c.in_ok-other-in-If.ensures.known n b (known_other n c.args.heap.now c.args.core.now _ _ _ _ c.in-If.is c.get-in-If-2.ensures k) (c.in_ok-then-in-If.ensures.known n b (known_then n c.args.heap.now c.args.core.now _ _ _ _ c.in-If.is c.get-in-If.ensures k) (c.in_ok-test-in-If.ensures.known n b (known_test n c.args.heap.now c.args.core.now _ _ _ _ c.in-If.is c.get.ensures k) o)))
+
+pub build_in-returns-in_ok-t-in-If-clause-known : goal.build_in-returns-in_ok-t-in-If-clause-known
+build_in-returns-in_ok-t-in-If-clause-known t c =
+    λ n b k o. c.in_ok-t-in-If.ensures.known n (c.in_ok-other-in-If.ensures.known n b (known_other n c.args.heap.now c.args.core.now _ _ _ _ c.in-If.is c.get-in-If-2.ensures k) (c.in_ok-then-in-If.ensures.known n b (known_then n c.args.heap.now c.args.core.now _ _ _ _ c.in-If.is c.get-in-If.ensures k) (c.in_ok-test-in-If.ensures.known n b (known_test n c.args.heap.now c.args.core.now _ _ _ _ c.in-If.is c.get.ensures k) o)))
+
+pub build_in-returns-in_err-parts-in-Let-clause-known : goal.build_in-returns-in_err-parts-in-Let-clause-known
+build_in-returns-in_err-parts-in-Let-clause-known t c =
+    λ n b k o. c.in_err-parts-in-Let.ensures.known n b (known_let_bound n c.args.heap.now c.args.core.now _ _ _ c.in-Let.is c.as_slice-bound.ensures k) o
+
+pub build_in-returns-in_err-names-in-Let-clause-known : goal.build_in-returns-in_err-names-in-Let-clause-known
+build_in-returns-in_err-names-in-Let-clause-known t c =
+    λ n b k o. c.in_ok-parts-in-Let.ensures.known n b (known_let_bound n c.args.heap.now c.args.core.now _ _ _ c.in-Let.is c.as_slice-bound.ensures k) o
+
+pub build_in-returns-in_err-body-in-Let-clause-known : goal.build_in-returns-in_err-body-in-Let-clause-known
+build_in-returns-in_err-body-in-Let-clause-known t c =
+    λ n b k o. c.in_err-body-in-Let.ensures.known n b (known_let_body n c.args.heap.now c.args.core.now _ _ _ c.in-Let.is c.get-body.ensures k) (c.in_ok-parts-in-Let.ensures.known n b (known_let_bound n c.args.heap.now c.args.core.now _ _ _ c.in-Let.is c.as_slice-bound.ensures k) o)
+
+pub build_in-returns-in_err-t-in-Let-clause-known : goal.build_in-returns-in_err-t-in-Let-clause-known
+build_in-returns-in_err-t-in-Let-clause-known t c =
+    λ n b k o. c.in_err-t-in-Let.ensures.known n (c.in_ok-body-in-Let.ensures.known n b (known_let_body n c.args.heap.now c.args.core.now _ _ _ c.in-Let.is c.get-body.ensures k) (c.in_ok-parts-in-Let.ensures.known n b (known_let_bound n c.args.heap.now c.args.core.now _ _ _ c.in-Let.is c.as_slice-bound.ensures k) o))
+
+pub build_in-returns-in_ok-t-in-Let-clause-known : goal.build_in-returns-in_ok-t-in-Let-clause-known
+build_in-returns-in_ok-t-in-Let-clause-known t c =
+    λ n b k o. c.in_ok-t-in-Let.ensures.known n (c.in_ok-body-in-Let.ensures.known n b (known_let_body n c.args.heap.now c.args.core.now _ _ _ c.in-Let.is c.get-body.ensures k) (c.in_ok-parts-in-Let.ensures.known n b (known_let_bound n c.args.heap.now c.args.core.now _ _ _ c.in-Let.is c.as_slice-bound.ensures k) o))
+
+pub build_in-returns-in_err-parts-in-Mv-clause-known : goal.build_in-returns-in_err-parts-in-Mv-clause-known
+build_in-returns-in_err-parts-in-Mv-clause-known t c =
+    λ n b k o. c.in_err-parts-in-Mv.ensures.known n b (known_mv_parts n c.args.heap.now c.args.core.now _ _ c.in-Mv.is c.as_slice-parts.ensures k) o
+
+pub build_in-returns-in_err-t-in-Mv-clause-known : goal.build_in-returns-in_err-t-in-Mv-clause-known
+build_in-returns-in_err-t-in-Mv-clause-known t c =
+    λ n b k o. c.in_err-t-in-Mv.ensures.known n (c.in_ok-parts-in-Mv.ensures.known n b (known_mv_parts n c.args.heap.now c.args.core.now _ _ c.in-Mv.is c.as_slice-parts.ensures k) o)
+
+pub build_in-returns-in_ok-t-in-Mv-clause-known : goal.build_in-returns-in_ok-t-in-Mv-clause-known
+build_in-returns-in_ok-t-in-Mv-clause-known t c =
+    λ n b k o. c.in_ok-t-in-Mv.ensures.known n (c.in_ok-parts-in-Mv.ensures.known n b (known_mv_parts n c.args.heap.now c.args.core.now _ _ c.in-Mv.is c.as_slice-parts.ensures k) o)
+
+pub build_in-returns-in_err-bound-in-MvLet-clause-known : goal.build_in-returns-in_err-bound-in-MvLet-clause-known
+build_in-returns-in_err-bound-in-MvLet-clause-known t c =
+    λ n b k o. c.in_err-bound-in-MvLet.ensures.known n b (known_mv_let_bound n c.args.heap.now c.args.core.now _ _ _ _ c.in-MvLet.is c.get-in-MvLet.ensures k) o
+
+pub build_in-returns-in_err-body-in-MvLet-clause-known : goal.build_in-returns-in_err-body-in-MvLet-clause-known
+build_in-returns-in_err-body-in-MvLet-clause-known t c =
+    λ n b k o. c.in_err-body-in-MvLet.ensures.known n b (known_mv_let_body n c.args.heap.now c.args.core.now _ _ _ _ c.in-MvLet.is c.get-body-in-MvLet.ensures k) (c.in_ok-bound-in-MvLet.ensures.known n b (known_mv_let_bound n c.args.heap.now c.args.core.now _ _ _ _ c.in-MvLet.is c.get-in-MvLet.ensures k) o)
+
+pub build_in-returns-in_err-t-in-MvLet-clause-known : goal.build_in-returns-in_err-t-in-MvLet-clause-known
+build_in-returns-in_err-t-in-MvLet-clause-known t c =
+    λ n b k o. c.in_err-t-in-MvLet.ensures.known n (c.in_ok-body-in-MvLet.ensures.known n b (known_mv_let_body n c.args.heap.now c.args.core.now _ _ _ _ c.in-MvLet.is c.get-body-in-MvLet.ensures k) (c.in_ok-bound-in-MvLet.ensures.known n b (known_mv_let_bound n c.args.heap.now c.args.core.now _ _ _ _ c.in-MvLet.is c.get-in-MvLet.ensures k) o))
+
+pub build_in-returns-in_ok-t-in-MvLet-clause-known : goal.build_in-returns-in_ok-t-in-MvLet-clause-known
+build_in-returns-in_ok-t-in-MvLet-clause-known t c =
+    λ n b k o. c.in_ok-t-in-MvLet.ensures.known n (c.in_ok-body-in-MvLet.ensures.known n b (known_mv_let_body n c.args.heap.now c.args.core.now _ _ _ _ c.in-MvLet.is c.get-body-in-MvLet.ensures k) (c.in_ok-bound-in-MvLet.ensures.known n b (known_mv_let_bound n c.args.heap.now c.args.core.now _ _ _ _ c.in-MvLet.is c.get-in-MvLet.ensures k) o))
+
+pub build_in-returns-in_err-made-in-StobjLet-clause-known : goal.build_in-returns-in_err-made-in-StobjLet-clause-known
+build_in-returns-in_err-made-in-StobjLet-clause-known t c =
+    λ n b k o. c.in_err-made-in-StobjLet.ensures.known n b (known_lent_producer n c.args.heap.now c.args.core.now _ _ _ _ _ c.in-StobjLet.is c.get-made.ensures k) o
+
+pub build_in-returns-in_err-used-in-StobjLet-clause-known : goal.build_in-returns-in_err-used-in-StobjLet-clause-known
+build_in-returns-in_err-used-in-StobjLet-clause-known t c =
+    λ n b k o. c.in_err-used-in-StobjLet.ensures.known n b (known_consumer n c.args.heap.now c.args.core.now _ _ _ _ _ c.in-StobjLet.is c.get-used.ensures k) (c.in_ok-made-in-StobjLet.ensures.known n b (known_lent_producer n c.args.heap.now c.args.core.now _ _ _ _ _ c.in-StobjLet.is c.get-made.ensures k) o)
+
+pub build_in-returns-in_err-t-in-StobjLet-clause-known : goal.build_in-returns-in_err-t-in-StobjLet-clause-known
+build_in-returns-in_err-t-in-StobjLet-clause-known t c =
+    λ n b k o. c.in_err-t-in-StobjLet.ensures.known n (c.in_ok-lent-in-StobjLet.ensures.known n b (known_lent n c.args.heap.now c.args.core.now _ _ _ _ _ c.in-StobjLet.is c.as_slice-bound-in-StobjLet.ensures k)) (c.in_ok-used-in-StobjLet.ensures.known n b (known_consumer n c.args.heap.now c.args.core.now _ _ _ _ _ c.in-StobjLet.is c.get-used.ensures k) (c.in_ok-made-in-StobjLet.ensures.known n b (known_lent_producer n c.args.heap.now c.args.core.now _ _ _ _ _ c.in-StobjLet.is c.get-made.ensures k) o))
+
+pub build_in-returns-in_ok-t-in-StobjLet-clause-known : goal.build_in-returns-in_ok-t-in-StobjLet-clause-known
+build_in-returns-in_ok-t-in-StobjLet-clause-known t c =
+    λ n b k o. c.in_ok-t-in-StobjLet.ensures.known n (c.in_ok-lent-in-StobjLet.ensures.known n b (known_lent n c.args.heap.now c.args.core.now _ _ _ _ _ c.in-StobjLet.is c.as_slice-bound-in-StobjLet.ensures k)) (c.in_ok-used-in-StobjLet.ensures.known n b (known_consumer n c.args.heap.now c.args.core.now _ _ _ _ _ c.in-StobjLet.is c.get-used.ensures k) (c.in_ok-made-in-StobjLet.ensures.known n b (known_lent_producer n c.args.heap.now c.args.core.now _ _ _ _ _ c.in-StobjLet.is c.get-made.ensures k) o))
+
+pub build_in-returns-in_err-made-in-WithLocal-clause-known : goal.build_in-returns-in_err-made-in-WithLocal-clause-known
+build_in-returns-in_err-made-in-WithLocal-clause-known t c =
+    λ n b k o. c.in_err-made-in-WithLocal.ensures.known n b (known_local_producer n c.args.heap.now c.args.core.now _ _ _ _ _ c.in-WithLocal.is c.get-made-in-WithLocal.ensures k) o
+
+pub build_in-returns-in_err-body-in-WithLocal-clause-known : goal.build_in-returns-in_err-body-in-WithLocal-clause-known
+build_in-returns-in_err-body-in-WithLocal-clause-known t c =
+    λ n b k o. c.in_err-body-in-WithLocal.ensures.known n b (known_local_body n c.args.heap.now c.args.core.now _ _ _ _ _ c.in-WithLocal.is c.get-body-in-WithLocal.ensures k) (c.in_ok-made-in-WithLocal.ensures.known n b (known_local_producer n c.args.heap.now c.args.core.now _ _ _ _ _ c.in-WithLocal.is c.get-made-in-WithLocal.ensures k) o)
+
+pub build_in-returns-in_err-t-in-WithLocal-clause-known : goal.build_in-returns-in_err-t-in-WithLocal-clause-known
+build_in-returns-in_err-t-in-WithLocal-clause-known t c =
+    λ n b k o. c.in_err-t-in-WithLocal.ensures.known n (c.in_ok-body-in-WithLocal.ensures.known n b (known_local_body n c.args.heap.now c.args.core.now _ _ _ _ _ c.in-WithLocal.is c.get-body-in-WithLocal.ensures k) (c.in_ok-made-in-WithLocal.ensures.known n b (known_local_producer n c.args.heap.now c.args.core.now _ _ _ _ _ c.in-WithLocal.is c.get-made-in-WithLocal.ensures k) o))
+
+pub build_in-returns-in_ok-t-in-WithLocal-clause-known : goal.build_in-returns-in_ok-t-in-WithLocal-clause-known
+build_in-returns-in_ok-t-in-WithLocal-clause-known t c =
+    λ n b k o. c.in_ok-t-in-WithLocal.ensures.known n (c.in_ok-body-in-WithLocal.ensures.known n b (known_local_body n c.args.heap.now c.args.core.now _ _ _ _ _ c.in-WithLocal.is c.get-body-in-WithLocal.ensures k) (c.in_ok-made-in-WithLocal.ensures.known n b (known_local_producer n c.args.heap.now c.args.core.now _ _ _ _ _ c.in-WithLocal.is c.get-made-in-WithLocal.ensures k) o))
+
+pub build_in-returns-in_err-logic-in-MustBeEqual-clause-known : goal.build_in-returns-in_err-logic-in-MustBeEqual-clause-known
+build_in-returns-in_err-logic-in-MustBeEqual-clause-known t c =
+    λ n b k o. c.in_err-logic-in-MustBeEqual.ensures.known n b (known_logic n c.args.heap.now c.args.core.now _ _ _ c.in-MustBeEqual.is c.get-in-MustBeEqual.ensures k) o
+
+pub build_in-returns-in_err-t-in-MustBeEqual-clause-known : goal.build_in-returns-in_err-t-in-MustBeEqual-clause-known
+build_in-returns-in_err-t-in-MustBeEqual-clause-known t c =
+    λ n b k o. c.in_err-t-in-MustBeEqual.ensures.known n (c.in_ok-logic-in-MustBeEqual.ensures.known n b (known_logic n c.args.heap.now c.args.core.now _ _ _ c.in-MustBeEqual.is c.get-in-MustBeEqual.ensures k) o)
+
+pub build_in-returns-in_ok-t-in-MustBeEqual-clause-known : goal.build_in-returns-in_ok-t-in-MustBeEqual-clause-known
+build_in-returns-in_ok-t-in-MustBeEqual-clause-known t c =
+    λ n b k o. c.in_ok-t-in-MustBeEqual.ensures.known n (c.in_ok-logic-in-MustBeEqual.ensures.known n b (known_logic n c.args.heap.now c.args.core.now _ _ _ c.in-MustBeEqual.is c.get-in-MustBeEqual.ensures k) o)
+
+pub build_in-returns-in_err-actuals-in-Call-clause-known : goal.build_in-returns-in_err-actuals-in-Call-clause-known
+build_in-returns-in_err-actuals-in-Call-clause-known t c =
+    λ n b k o. c.in_err-actuals-in-Call.ensures.known n b (known_actuals n c.args.heap.now c.args.core.now _ _ _ c.in-Call.is c.as_slice-actuals.ensures k) o
+
+pub build_in-returns-in_err-t-in-Call-clause-known : goal.build_in-returns-in_err-t-in-Call-clause-known
+build_in-returns-in_err-t-in-Call-clause-known t c =
+    λ n b k o. c.in_err-t-in-Call.ensures.known n (c.in_ok-actuals-in-Call.ensures.known n b (known_actuals n c.args.heap.now c.args.core.now _ _ _ c.in-Call.is c.as_slice-actuals.ensures k) o)
+
+pub build_in-returns-in_ok-t-in-Call-clause-known : goal.build_in-returns-in_ok-t-in-Call-clause-known
+build_in-returns-in_ok-t-in-Call-clause-known t c =
+    λ n b k o. c.in_ok-t-in-Call.ensures.known n (c.in_ok-actuals-in-Call.ensures.known n b (known_actuals n c.args.heap.now c.args.core.now _ _ _ c.in-Call.is c.as_slice-actuals.ensures k) o)
+
+pub build_in-returns-in_err-lent-in-StobjLet-clause-known : goal.build_in-returns-in_err-lent-in-StobjLet-clause-known
+build_in-returns-in_err-lent-in-StobjLet-clause-known t c =
+    λ n b k o. o
+
+pub build_in-returns-in_err-names-in-StobjLet-clause-known : goal.build_in-returns-in_err-names-in-StobjLet-clause-known
+build_in-returns-in_err-names-in-StobjLet-clause-known t c =
+    λ n b k o. o
+
+pub build_under-returns-in_err-inner-clause-known : goal.build_under-returns-in_err-inner-clause-known
+build_under-returns-in_err-inner-clause-known t c =
+    λ n b k o. o
+
+pub build_under-returns-in_err-t-clause-known : goal.build_under-returns-in_err-t-clause-known
+build_under-returns-in_err-t-clause-known t c =
+    c.in_err-t.ensures.known
+
+pub build_under-returns-clause-known : goal.build_under-returns-clause-known
+build_under-returns-clause-known t c =
+    c.in_ok-t.ensures.known
+
+pub build_inside-returns-in_err-inner-clause-known : goal.build_inside-returns-in_err-inner-clause-known
+build_inside-returns-in_err-inner-clause-known t c =
+    λ n b k o. o
+
+pub build_inside-returns-in_err-t-clause-known : goal.build_inside-returns-in_err-t-clause-known
+build_inside-returns-in_err-t-clause-known t c =
+    c.in_err-t.ensures.known
+
+pub build_inside-returns-clause-known : goal.build_inside-returns-clause-known
+build_inside-returns-clause-known t c =
+    c.in_ok-t.ensures.known
+
+pub build_parts-returns-in_err-t-clause-known : goal.build_parts-returns-in_err-t-clause-known
+build_parts-returns-in_err-t-clause-known t c =
+    λ n b k o. c.in_err-t.ensures.known n b (part_known n c.args.heap.now c.args.parts.now c.loop-i.i _ c.index-parts-i.result c.loop-i-test.true c.index-parts-i.is k) (c.loop-i.invariant.known n b k o)
+
+pub build_parts-returns-in_err-push-in-Some-clause-known : goal.build_parts-returns-in_err-push-in-Some-clause-known
+build_parts-returns-in_err-push-in-Some-clause-known t c =
+    λ n b k o. c.in_ok-t.ensures.known n b (part_known n c.args.heap.now c.args.parts.now c.loop-i.i _ c.index-parts-i.result c.loop-i-test.true c.index-parts-i.is k) (c.loop-i.invariant.known n b k o)
+
+pub build_parts-returns-in-None-clause-known : goal.build_parts-returns-in-None-clause-known
+build_parts-returns-in-None-clause-known t c =
+    λ n b k o. c.in_ok-t.ensures.known n b (part_known n c.args.heap.now c.args.parts.now c.loop-i.i _ c.index-parts-i.result c.loop-i-test.true c.index-parts-i.is k) (c.loop-i.invariant.known n b k o)
+
+pub build_parts-returns-clause-known : goal.build_parts-returns-clause-known
+build_parts-returns-clause-known t c =
+    c.loop-i.invariant.known
+
+pub build_bound-returns-in_err-t-clause-known : goal.build_bound-returns-in_err-t-clause-known
+build_bound-returns-in_err-t-clause-known t c =
+    λ n b k o. c.in_err-t.ensures.known n b (binding_known n c.args.heap.now c.args.bindings.now c.loop-i.i _ c.index-bindings-i.result c.loop-i-test.true c.index-bindings-i.is k) (c.loop-i.invariant.known n b k o)
+
+pub build_bound-returns-in_err-push-in-Some-clause-known : goal.build_bound-returns-in_err-push-in-Some-clause-known
+build_bound-returns-in_err-push-in-Some-clause-known t c =
+    λ n b k o. c.in_ok-t.ensures.known n b (binding_known n c.args.heap.now c.args.bindings.now c.loop-i.i _ c.index-bindings-i.result c.loop-i-test.true c.index-bindings-i.is k) (c.loop-i.invariant.known n b k o)
+
+pub build_bound-returns-in-None-clause-known : goal.build_bound-returns-in-None-clause-known
+build_bound-returns-in-None-clause-known t c =
+    λ n b k o. c.in_ok-t.ensures.known n b (binding_known n c.args.heap.now c.args.bindings.now c.loop-i.i _ c.index-bindings-i.result c.loop-i-test.true c.index-bindings-i.is k) (c.loop-i.invariant.known n b k o)
+
+pub build_bound-returns-clause-known : goal.build_bound-returns-clause-known
+build_bound-returns-clause-known t c =
+    c.loop-i.invariant.known

@@ -6,7 +6,7 @@ use Rattle.acl_code.proofs.parts.put_parts.Goals as goal
 pub loop-part-preserved : goal.loop-part-preserved
 loop-part-preserved c =
     parts_step c.args.heap.now c.args.terms.now c.loop-part.terms c.put_part.new.terms c.args.parts.now c.loop-part.part-index _ c.loop-part-test.true c.loop-part.invariant
-    c.in_ok-put_part.ensures.is c.in_ok-put_part.ensures.grows c.in_ok-put_part.ensures.words
+    c.in_ok-put_part.ensures.is c.in_ok-put_part.ensures.grows c.in_ok-put_part.ensures.words c.in_ok-put_part.ensures.known
 
 pub returns-clause-are : goal.returns-clause-are
 returns-clause-are c =

@@ -8,7 +8,13 @@ use Rattle.acl_engine.specs.Outcomes.{seen_body}
 use Rattle.acl_expand.specs.Looks.{setting_at}
 use Rattle.acl_expand.specs.Progresses.{seen_progress}
 use Rattle.acl_expand.proofs.EndLemmas.{with_values}
+use Rattle.acl_expand.proofs.KnownLemmas.{actuals_whole}
 use Rattle.acl_expand.proofs.entering.entered.Goals as goal
+
+pub evaluated-requires-clause-values : goal.evaluated-requires-clause-values
+evaluated-requires-clause-values g c =
+    let values = rw c.in-Some.is at c.in_ok-macro_values.ensures.values in
+    rw c.as_slice.ensures (actuals_whole c.args.syms.now c.args.heap.now (seen_formals c.args.heap.now c.args.definition.now.formals) (object_of c.args.heap.now c.args.d) _ c.requires.enough c.requires.defaults c.requires.known values.0 values.1)
 
 pub returns-in-Err-clause-ends : goal.returns-in-Err-clause-ends
 returns-in-Err-clause-ends g c = λ known.

@@ -1,4 +1,5 @@
 use Rattle.std.specs.Prelude.{Ok, Err}
+use Rattle.std.proofs.Common.{◌≤◌, length, arith}
 use Rattle.acl_expand.specs.Progresses.{seen_progress}
 use Rattle.acl_expand.proofs.EndLemmas.{ends}
 use Rattle.acl_expand.proofs.entering.evaluated.Goals as goal
@@ -14,3 +15,6 @@ returns-in-Err-clause-ends g c = λ known.
     let free = c.in-Err.ensures.fault known in
     ends c.apply-outcome.new.heap (seen_progress c.apply-outcome.new.syms.symbols c.again.new.progress) (Err c.in-Err.refused)
     c.args.syms.now.symbols c.apply-outcome.new.syms.symbols c.args.progress.now c.apply-outcome.result _ (c.apply-outcome.ensures.outcome.is free) (c.in-Err.ensures.ends free) known
+
+pub again-requires-clause-enough : goal.again-requires-clause-enough
+again-requires-clause-enough g c = omega (arith, c.requires.enough, c.apply-outcome.ensures.grows.table.longer)

@@ -9,8 +9,12 @@ use Rattle.acl_layers.specs.Layers.{seen_found}
 use Rattle.acl_expand.specs.declared.progress.Refused.{Refused}
 use Rattle.acl_expand.specs.Looks.{setting_at, seen_fault}
 use Rattle.acl_expand.specs.Progresses.{seen_progress}
+use Rattle.acl_expand.proofs.KnownLemmas.{supplies_there}
 use Rattle.acl_expand.proofs.SettleLemmas.{step_there, settled_stays, settled_fails, settled_last, settled_again}
 use Rattle.acl_expand.proofs.stepping.settle.Goals as goal
+
+pub step-requires-clause-supplies : goal.step-requires-clause-supplies
+step-requires-clause-supplies g c = supplies_there c.uses.invariant.1 c.args.world.now c.requires.world c.requires.supplies
 
 pub returns-in-Err-clause-ends : goal.returns-in-Err-clause-ends
 returns-in-Err-clause-ends g c = λ known.
@@ -45,4 +49,5 @@ uses-preserved g c =
       c.step.ensures.counts,
       c.uses.invariant.6 ∙ settled_again (setting_at c.args.heap.now c.args.world.now c.args.syms.now c.args.limits.steps c.args.limits.depth) c.uses.left (object_of c.uses.heap c.uses.at) (object_of c.step.new.heap c.in-Again.word) (seen_progress c.uses.syms.symbols c.uses.progress) (seen_progress c.step.new.syms.symbols c.step.new.progress) (omega arith)
           (step_there c.uses.invariant.1.heap c.args.world.now c.args.syms.now c.uses.syms c.args.limits.steps c.args.limits.depth c.requires.world c.uses.invariant.2 (object_of c.uses.heap c.uses.at) (seen_progress c.uses.syms.symbols c.uses.progress) _ made.0),
+      rw c.in-Again.is at c.in-Ok.ensures.known,
     )

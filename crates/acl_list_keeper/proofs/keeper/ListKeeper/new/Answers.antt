@@ -1,5 +1,5 @@
-use Rattle.acl_list_keeper.proofs.KeptLemmas.{nothing_kept}
+use Rattle.acl_list_keeper.proofs.SoundLemmas.{sound_new}
 use Rattle.acl_list_keeper.proofs.keeper.ListKeeper.new.Goals as goal
 
-pub returns : goal.returns
-returns c = nothing_kept _ _ _ c.new-2.ensures.items c.new-3.ensures.items
+pub returns-clause-sound : goal.returns-clause-sound
+returns-clause-sound c h w n f = sound_new c.new.result h w n c.new.ensures f

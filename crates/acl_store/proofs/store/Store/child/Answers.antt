@@ -1,5 +1,5 @@
 use Rattle.std.proofs.Common.{rules}
-use Rattle.acl_store.specs.Parts.{HasChild}
+use Rattle.acl_fields.specs.Parts.{HasChild}
 use Rattle.acl_store.proofs.StoreLemmas.{some_within, asked, lends_it}
 use Rattle.acl_store.proofs.store.Store.child.Goals as goal
 

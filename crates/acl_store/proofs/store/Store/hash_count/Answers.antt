@@ -1,7 +1,7 @@
 use Rattle.std.proofs.Common.{rules}
 use Rattle.std.specs.Prelude.{IsSome}
-use Rattle.acl_store.specs.Fields.{table_in}
-use Rattle.acl_store.specs.Tables.{Counts}
+use Rattle.acl_fields.specs.Fields.{table_in}
+use Rattle.acl_fields.specs.Changes.{Counts}
 use Rattle.acl_store.proofs.StoreLemmas.{some_within, asked, by_part}
 use Rattle.acl_store.proofs.TableLemmas.{counts_at}
 use Rattle.acl_store.proofs.store.Store.hash_count.Goals as goal

@@ -1,5 +1,5 @@
 use Rattle.std.proofs.Common.{rules}
-use Rattle.acl_store.specs.Tables.{IsKnownTable, Lists}
+use Rattle.acl_fields.specs.Changes.{IsKnownTable, Lists}
 use Rattle.acl_store.proofs.StoreLemmas.{some_within, asked, by_part}
 use Rattle.acl_store.proofs.TableLemmas.{lists_at}
 use Rattle.acl_store.proofs.store.Store.hash_pairs.Goals as goal

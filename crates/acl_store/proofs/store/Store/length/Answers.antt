@@ -1,5 +1,5 @@
 use Rattle.std.proofs.Common.{rules}
-use Rattle.acl_store.specs.Fields.{HasLength}
+use Rattle.acl_fields.specs.Fields.{HasLength}
 use Rattle.acl_store.proofs.StoreLemmas.{some_within, asked, measures_it}
 use Rattle.acl_store.proofs.store.Store.length.Goals as goal
 

@@ -1,6 +1,6 @@
 use Rattle.std.proofs.Common.{rules, ◌≡◌, ◌∙◌, sym, length}
 use Rattle.std.proofs.lemmas.List.{length-map}
-use Rattle.acl_store.specs.Views.{node_of}
+use Rattle.acl_fields.specs.Views.{node_of}
 use Rattle.acl_store.proofs.store.Store.mark.Goals as goal
 
 pub returns : goal.returns

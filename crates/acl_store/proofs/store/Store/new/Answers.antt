@@ -1,5 +1,5 @@
 use Rattle.std.proofs.Common.{ap}
-use Rattle.acl_store.specs.Views.{view}
+use Rattle.acl_fields.specs.Views.{view}
 use Rattle.acl_store.proofs.StoreLemmas.{nothing_there}
 use Rattle.acl_store.proofs.store.Store.new.Goals as goal
 

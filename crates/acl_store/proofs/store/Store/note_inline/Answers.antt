@@ -1,4 +1,4 @@
-use Rattle.acl_store.specs.Views.{view}
+use Rattle.acl_fields.specs.Views.{view}
 use Rattle.acl_store.proofs.JournalLemmas.{may_write}
 use Rattle.acl_store.proofs.store.Store.note_inline.Goals as goal
 

@@ -1,5 +1,5 @@
 use Rattle.std.proofs.Common.{rules}
-use Rattle.acl_store.specs.Fields.{IsHeld}
+use Rattle.acl_fields.specs.Fields.{IsHeld}
 use Rattle.acl_store.proofs.StoreLemmas.{some_within, asked, reads_object}
 use Rattle.acl_heap.specs.Growth.{reset_grown}
 use Rattle.acl_store.proofs.store.Store.read_general.Goals as goal

@@ -1,8 +1,8 @@
 use Rattle.std.proofs.Common.{rules, ◌≡◌, to_z, of_z, w64, ℤ, subst}
 use Rattle.acl_base.specs.declared.Word.TheVariants.{Small}
-use Rattle.acl_store.specs.Fields.{IsElement}
+use Rattle.acl_fields.specs.Fields.{IsElement}
 use Rattle.acl_store.specs.Calls.{Reads}
-use Rattle.acl_store.specs.Views.{view}
+use Rattle.acl_fields.specs.Views.{view}
 use Rattle.acl_store.proofs.StoreLemmas.{some_within, asked, reads_it}
 use Rattle.acl_store.proofs.store.Store.read_inline.Goals as goal
 

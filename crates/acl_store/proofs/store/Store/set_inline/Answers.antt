@@ -1,9 +1,10 @@
 use Rattle.std.proofs.Common.{rules, ◌≡◌, ◌∙◌, to_z, of_z, w64, ℤ, subst, set}
-use Rattle.acl_store.specs.Fields.{IsElement, IsKept, number_of, with_element}
+use Rattle.acl_fields.specs.Fields.{IsElement, IsKept, number_of, with_element}
 use Rattle.acl_store.specs.Calls.{IsPut}
-use Rattle.acl_store.specs.Views.{view}
+use Rattle.acl_fields.specs.Views.{view}
 use Rattle.acl_store.proofs.StoreLemmas.{some_within, asked, kept_word, puts_it, put_typed, writes}
 use Rattle.acl_store.proofs.JournalLemmas.{writes_keep}
+use Rattle.acl_store.proofs.CountLemmas.{inline_counted}
 use Rattle.acl_store.proofs.store.Store.set_inline.Goals as goal
 
 pub index_mut-requires : goal.index_mut-requires
@@ -28,3 +29,6 @@ returns-clause-typed c = put_typed _ _ c.args.n.0 c.args.field c.args.index (num
 
 pub returns-clause-remembers : goal.returns-clause-remembers
 returns-clause-remembers c = writes_keep _ _ _ c.args.self.now.first c.args.n.0 c.args.field c.args.index (number_of c.args.w) c.requires.inline (returns-clause-put c)
+
+pub returns-clause-counted : goal.returns-clause-counted
+returns-clause-counted c = inline_counted _ _ c.args.self.now.notes.items c.args.n.0 c.args.field c.args.index c.args.self.now.held (number_of c.args.w) c.requires.inline (returns-clause-put c) c.requires.counted

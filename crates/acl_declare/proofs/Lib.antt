@@ -1,0 +1,10 @@
+pub mod ShapeLemmas
+pub mod DepthLemmas
+pub mod SaidLemmas
+pub mod KeyLemmas
+pub mod TableLemmas
+pub mod TypedLemmas
+pub mod ItemLemmas
+pub mod FormalLemmas
+pub mod BodyLemmas
+pub mod NameLemmas

@@ -1,0 +1,4 @@
+use Rattle.acl_declare.proofs.plain.+fits.Given as goal
+
+abbrev pub decreases-fits : goal.decreases-fits
+decreases-fits l = l.left

@@ -1,0 +1,4 @@
+pub mod ShapeLemmas
+pub mod RefusalLemmas
+pub mod DraftLemmas
+pub mod ReadingLemmas

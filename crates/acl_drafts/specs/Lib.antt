@@ -1,0 +1,4 @@
+pub mod Functions
+pub mod Drafts
+pub mod Names
+pub mod Refusals

@@ -1,0 +1,4 @@
+pub mod SlotLemmas
+pub mod NodeLemmas
+pub mod NoteLemmas
+pub mod HeldLemmas

@@ -1,0 +1,4 @@
+mod FieldLemmas
+pub mod LaidLemmas
+mod ListLemmas
+mod RecognizeLemmas

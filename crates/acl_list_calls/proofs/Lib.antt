@@ -1,0 +1,6 @@
+mod ArgumentLemmas
+mod PlainLemmas
+mod ReadLemmas
+mod WriteLemmas
+mod HashLemmas
+mod RoleLemmas

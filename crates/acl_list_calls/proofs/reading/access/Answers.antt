@@ -1,0 +1,18 @@
+use Rattle.model_eval.specs.Variables.{ordinary}
+use Rattle.acl_keep.specs.Seen.{all_seen}
+use Rattle.acl_list_parts.specs.Parts.{list_given}
+use Rattle.acl_list_calls.proofs.ReadLemmas.{scalar_accessed, hash_accessed, child_accessed, children_accessed}
+use Rattle.acl_list_calls.proofs.reading.access.Goals as goal
+
+pub returns-in_ok-w-in-Scalar-clause-is : goal.returns-in_ok-w-in-Scalar-clause-is
+returns-in_ok-w-in-Scalar-clause-is c =
+    scalar_accessed c.scalar.new.heap c.args.heap.now c.args.lists.now c.args.shape c.args.place.field (ordinary (all_seen c.args.heap.now c.args.values.now)) (list_given c.args.lists.now c.args.place.list) _ _ c.in_ok-w-in-Scalar.w c.item-field.result c.in-Scalar.is c.item-field.ensures.is c.in_ok-w-in-Scalar.ensures.is
+
+pub returns-in-Hash-clause-is : goal.returns-in-Hash-clause-is
+returns-in-Hash-clause-is c = hash_accessed c.args.heap.now c.args.heap.now c.args.lists.now c.args.shape c.args.place.field (ordinary (all_seen c.args.heap.now c.args.values.now)) (list_given c.args.lists.now c.args.place.list) _ c.in-Hash.is
+
+pub returns-in-Child-clause-is : goal.returns-in-Child-clause-is
+returns-in-Child-clause-is c = child_accessed c.args.heap.now c.args.heap.now c.args.lists.now c.args.shape c.args.place.field (ordinary (all_seen c.args.heap.now c.args.values.now)) (list_given c.args.lists.now c.args.place.list) _ c.in-Child.is
+
+pub returns-in-Children-clause-is : goal.returns-in-Children-clause-is
+returns-in-Children-clause-is c = children_accessed c.args.heap.now c.args.heap.now c.args.lists.now c.args.shape c.args.place.field (ordinary (all_seen c.args.heap.now c.args.values.now)) (list_given c.args.lists.now c.args.place.list) _ _ c.in-Children.is

@@ -1,6 +1,0 @@
-use Rattle.std.proofs.Common.{◌-◌}
-use Rattle.acl_list_keeper.specs.Scopes.{IsOver}
-use Rattle.acl_list_keeper.proofs.scope.handed_over.Given as goal
-
-abbrev pub invariant-loop-done : goal.invariant-loop-done
-invariant-loop-done l = IsOver l.fn.bindings l.formals l.actuals l.made.items (l.count - l.done)

@@ -1,0 +1,4 @@
+pub mod ScopeLemmas
+mod CallLemmas
+pub mod LendLemmas
+pub mod KeptLemmas

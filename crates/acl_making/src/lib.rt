@@ -1,0 +1,6 @@
+//! New nodes of live objects, by their layouts.
+#![tactic(auto)]
+
+mod making;
+
+pub use making::make;

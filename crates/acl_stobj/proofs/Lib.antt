@@ -1,0 +1,11 @@
+pub mod TextLemmas
+pub mod RenameLemmas
+pub mod MakingLemmas
+pub mod LoopLemmas
+pub mod UseLemmas
+pub mod CongruenceLemmas
+pub mod FieldLemmas
+pub mod OwnLemmas
+pub mod RefusalLemmas
+pub mod KnowingLemmas
+pub mod OutcomeLemmas

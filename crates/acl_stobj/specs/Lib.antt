@@ -1,0 +1,10 @@
+pub mod Texts
+pub mod Renames
+pub mod Making
+pub mod Uses
+pub mod MadeFields
+pub mod Fields
+pub mod Described
+pub mod Knowing
+pub mod Outcomes
+pub mod Accepted

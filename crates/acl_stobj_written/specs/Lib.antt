@@ -1,0 +1,5 @@
+pub mod Fields
+pub mod Initials
+pub mod Read
+pub mod Shaping
+pub mod Refusals

@@ -1,7 +1,0 @@
-use Rattle.acl_store.specs.Parts.{part_of}
-use Rattle.acl_store.specs.Tables.{Counts}
-use Rattle.acl_store.proofs.NodeLemmas.{slot_given}
-use Rattle.acl_store.proofs.node.Node.count.Goals as goal
-
-pub returns : goal.returns
-returns c = slot_given c.args.self.now.slots.items c.args.field c.index.result.now _ (λ s. Counts (part_of s) c.count.result) c.index.ensures c.requires c.count.ensures

@@ -1,7 +1,0 @@
-use Rattle.acl_store.specs.Parts.{part_of}
-use Rattle.acl_store.specs.Tables.{Lists}
-use Rattle.acl_store.proofs.NodeLemmas.{slot_given}
-use Rattle.acl_store.proofs.node.Node.pairs.Goals as goal
-
-pub returns-in-Ok-clause-ok : goal.returns-in-Ok-clause-ok
-returns-in-Ok-clause-ok c = slot_given c.args.self.now.slots.items c.args.field c.index.result.now _ (λ s. Lists c.args.syms.now.symbols (part_of s) c.pairs.new.heap c.in-Ok.pairs.items) c.index.ensures c.requires c.in-Ok.ensures.ok

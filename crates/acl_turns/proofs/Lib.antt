@@ -1,0 +1,13 @@
+pub mod LeftsLemmas
+pub mod QuietLemmas
+pub mod StepLemmas
+pub mod AskLemmas
+pub mod LeaveLemmas
+pub mod GrowthLemmas
+pub mod UnknownLemmas
+pub mod TermLemmas
+pub mod OwnLemmas
+pub mod TakeLemmas
+pub mod RunLemmas
+pub mod MetLemmas
+pub mod LeadLemmas
