@@ -1,21 +1,22 @@
 #!/usr/bin/env python3
 """Checks a crate over the libraries that a gate has proved.
 
-A gate (rt ci, or rt ci NAME ..) proves libraries where rt check in another checkout cannot use them, so that on a new machine
-each checkout would prove all libraries below a crate again.
+A gate (rt ci) that runs in one checkout proves libraries that rt check in another cannot use, so that on a new machine each
+checkout would prove all libraries below a crate again.
 
-  tools/over_gate.py collect DIR             keeps the libraries that gates on this machine finish in DIR, until it is stopped
-  tools/over_gate.py check DIR BASE [FLAG..] in a crate's folder: runs rt check with these flags over the libraries in DIR of all
-                                             crates below whose text is that of the checkout BASE; the others are proved here.
-                                             It waits for those that are not in DIR yet
+  tools/over_gate.py collect DIR GATE LOG     keeps in DIR the libraries that the gate which runs in the checkout GATE has proved, as
+                                              what it prints, in the file LOG, says so; until it is stopped
+  tools/over_gate.py check DIR GATE [WORD..]  in a crate's folder: runs rt with these words (rt check without) over the libraries in
+                                              DIR of all crates below whose text is that of GATE; the others are proved here.
+                                              It waits for those that are not in DIR yet
 
-DIR has to lie on the disk that /tmp lies on. No verdict rests on this: rt ci is the gate.
+DIR has to lie on the disk that GATE lies on. No verdict rests on this: rt ci is the gate.
 """
-import glob
 import hashlib
 import importlib.machinery
 import importlib.util
 import os
+import re
 import shutil
 import subprocess
 import sys
@@ -41,16 +42,15 @@ def linked(folder, to):
         shutil.rmtree(room, ignore_errors=True)
 
 
-def collect(kept):
+def collect(kept, gate, log):
     os.makedirs(kept, exist_ok=True)
     while True:
-        for folder in glob.glob("/tmp/rt-copy-*/repo/crates/*/out/rlib/*.rlib"):
-            to = f"{kept}/{os.path.basename(folder)}"
-            try:
-                if not os.path.isdir(to) and time.time() - os.stat(folder).st_mtime > 3:
-                    linked(folder, to)
-            except OSError:
-                pass  # the gate has ended
+        with open(log, encoding="utf-8", errors="replace") as it:
+            names = re.findall(r"^rt: (\w+) proved", it.read(), re.M)
+        for name in names:
+            folder, to = f"{gate}/crates/{name}/out/rlib/{name}.rlib", f"{kept}/{name}.rlib"
+            if os.path.isdir(folder) and not os.path.isdir(to):
+                linked(folder, to)
         time.sleep(5)
 
 
@@ -75,10 +75,10 @@ def sums(rt, root):
     return uses, one
 
 
-def check(kept, base, flags):
+def check(kept, gate, words):
     rt, folder = kit(), os.getcwd()
     root = os.path.dirname(os.path.dirname(folder))
-    (_, here), (there, other) = sums(rt, root), sums(rt, base)
+    (_, here), (there, other) = sums(rt, root), sums(rt, gate)
     crate = next(it for it in rt.crates_below(root) if it.folder == folder)
     for it in crate.below():
         if it.name not in there or here(it.name) != other(it.name) or it.is_built():
@@ -91,13 +91,13 @@ def check(kept, base, flags):
         linked(f"{kept}/{it.name}.rlib", it.rlib)
         with open(f"{it.folder}/out/rlib/stamp", "w", encoding="utf-8") as stamp:
             stamp.write(it.stamp())
-    os.execvp("rt", ["rt", "check", *flags])
+    os.execvp("rt", ["rt", *(words or ["check"])])
 
 
 if __name__ == "__main__":
     words = sys.argv[1:]
-    if words[:1] == ["collect"] and len(words) == 2:
-        collect(words[1])
+    if words[:1] == ["collect"] and len(words) == 4:
+        collect(*words[1:])
     elif words[:1] == ["check"] and len(words) >= 3:
         check(words[1], words[2], words[3:])
     else:

@@ -2,4 +2,3 @@ pub mod CliqueLemmas
 pub mod FaultLemmas
 pub mod MacroLemmas
 pub mod MemberLemmas
-pub mod SmallLemmas

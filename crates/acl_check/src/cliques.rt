@@ -67,7 +67,7 @@ fn told(
 
 /// The signature of a function that was unknown and whose body now has known outputs.
 #[tactic(auto, using(crate::proofs::CliqueLemmas::learned_before, crate::proofs::CliqueLemmas::learned_now))]
-fn learned(
+pub fn learned(
     alloc: Global,
     world: &World,
     heap: &Heap,
@@ -88,7 +88,7 @@ fn learned(
 
 /// Puts what is learned last, where there is any.
 #[tactic(auto, using(crate::proofs::CliqueLemmas::known_push, crate::proofs::CliqueLemmas::known_same))]
-fn put_learned(
+pub fn put_learned(
     found: &mut Items<(SymId, Signature)>,
     one: Option<(SymId, Signature)>,
 ) -> Result<(), AllocError>
@@ -144,7 +144,7 @@ fn known_at_last(
 
 /// The signature of a function: as it is known, else with one ordinary output.
 #[tactic(auto, using(crate::proofs::CliqueLemmas::signature_there, crate::proofs::CliqueLemmas::signature_none))]
-fn member_signature(
+pub fn member_signature(
     alloc: Global,
     world: &World,
     heap: &Heap,

@@ -7,11 +7,9 @@ mod declared;
 mod faults;
 mod macros;
 mod member;
-#[cfg(test)]
-mod tests;
 
 pub use checks::{check_clique, check_constant, check_expression, check_form, check_macro};
-pub use cliques::clique;
+pub use cliques::{clique, learned, member_signature, put_learned};
 pub use faults::{clique_fault, form_fault, member_fault};
 pub use macros::formal_names;
 pub use member::{Member, formal_kinds, formal_scope};

@@ -21,4 +21,6 @@ pub use declared_types::declared_test;
 pub use formals::{FormalFault, formals_fault, read_formals};
 pub use names::name_in_use;
 pub use said::{Declared, GuardItem};
+pub use table::repeated;
 pub use whole::declarations;
+pub use xargs::{symbol, symbols_of};

@@ -33,7 +33,11 @@ pub fn symbol(heap: &Heap, x: Word) -> Option<SymId>
 
 /// The symbols of a list. None where it is no true list of symbols.
 #[tactic(auto, using(acl_layers::proofs::EachLemmas::step_some, acl_layers::proofs::EachLemmas::step_none, acl_layers::proofs::EachLemmas::start, acl_layers::proofs::EachLemmas::end_nil, acl_layers::proofs::EachLemmas::end_symbol, acl_layers::proofs::EachLemmas::end_integer, acl_layers::proofs::EachLemmas::end_text, acl_layers::proofs::BindingLemmas::numbers_push))]
-fn symbols_of(alloc: Global, heap: &Heap, list: Word) -> Result<Option<Items<SymId>>, AllocError>
+pub fn symbols_of(
+    alloc: Global,
+    heap: &Heap,
+    list: Word,
+) -> Result<Option<Items<SymId>>, AllocError>
     requires { Lies heap.now list }
     ensures { IfOk result (λ r. SeenSymbols r (each_of symbol (object_of heap.now list))) }
 {

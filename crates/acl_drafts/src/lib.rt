@@ -13,4 +13,6 @@ mod written;
 
 pub use draft::Draft;
 pub use fault::DraftFault;
+pub use names::{has_stars, is_good_name};
 pub use reading::read_drafts;
+pub use refusals::symbol_or_nil;

@@ -10,8 +10,9 @@ use acl_heap::{Heap, Seen};
 use acl_layers::{home_of, is_keyword, symbol_name};
 use acl_syms::Symbols;
 
+/// Whether its name begins and ends with a star.
 #[tactic(auto, using(acl_layers::proofs::NameLemmas::last_is))]
-fn has_stars(syms: &Symbols, s: SymId) -> bool
+pub fn has_stars(syms: &Symbols, s: SymId) -> bool
     ensures { result ≡ has_stars syms.now.symbols s.0 }
 {
     let name = symbol_name(syms, s);

@@ -40,7 +40,7 @@ pub fn evaluated<E: Engine>(
     definition: &Macro,
     values: &[Word],
 ) -> Result<Made, Refused>
-    requires fits { E.fits engine.old heap.old world.now (length syms.old.symbols) }
+    requires fits { E.fits engine.old heap.old world.now syms.old }
     requires world { WorldLies heap.old world.now }
     requires definition { IsMacroOf world.now definition.now }
     requires values { AreWhole syms.old heap.old values.now }
@@ -51,7 +51,7 @@ pub fn evaluated<E: Engine>(
     ensures grows { Grown syms.old syms.new heap.old heap.new }
     ensures packages { syms.new.packages ≡ syms.old.packages }
     ensures live { E.live engine.new ≡ E.live engine.old }
-    ensures fits { E.fits engine.new heap.new world.now (length syms.new.symbols) }
+    ensures fits { E.fits engine.new heap.new world.now syms.new }
     ensures counts { IsWithin progress.new limits.steps }
     ensures known { IfOk result (λ m. KnowsMade (length syms.new.symbols) (seen_made heap.new m)) }
     ensures told { IfErr result IsTold }
@@ -79,7 +79,7 @@ pub fn entered<E: Engine>(
     definition: &Macro,
     d: Word,
 ) -> Result<Made, Refused>
-    requires fits { E.fits engine.old heap.old world.now (length syms.old.symbols) }
+    requires fits { E.fits engine.old heap.old world.now syms.old }
     requires world { WorldLies heap.old world.now }
     requires definition { IsMacroOf world.now definition.now }
     requires formals { formals_reach definition.now.formals ≤ length heap.old }
@@ -92,7 +92,7 @@ pub fn entered<E: Engine>(
     ensures grows { Grown syms.old syms.new heap.old heap.new }
     ensures packages { syms.new.packages ≡ syms.old.packages }
     ensures live { E.live engine.new ≡ E.live engine.old }
-    ensures fits { E.fits engine.new heap.new world.now (length syms.new.symbols) }
+    ensures fits { E.fits engine.new heap.new world.now syms.new }
     ensures counts { IsWithin progress.new limits.steps }
     ensures known { IfOk result (λ m. KnowsMade (length syms.new.symbols) (seen_made heap.new m)) }
     ensures told { IfErr result IsTold }

@@ -82,7 +82,7 @@ fn counted_macro<E: Engine>(
     definition: &Macro,
     d: Word,
 ) -> Result<Made, Refused>
-    requires fits { E.fits engine.old heap.old world.now (length syms.old.symbols) }
+    requires fits { E.fits engine.old heap.old world.now syms.old }
     requires world { WorldLies heap.old world.now }
     requires definition { IsMacroOf world.now definition.now }
     requires formals { formals_reach definition.now.formals ≤ length heap.old }
@@ -95,7 +95,7 @@ fn counted_macro<E: Engine>(
     ensures grows { Grown syms.old syms.new heap.old heap.new }
     ensures packages { syms.new.packages ≡ syms.old.packages }
     ensures live { E.live engine.new ≡ E.live engine.old }
-    ensures fits { E.fits engine.new heap.new world.now (length syms.new.symbols) }
+    ensures fits { E.fits engine.new heap.new world.now syms.new }
     ensures counts { IsWithin progress.new limits.steps }
     ensures known { IfOk result (λ m. KnowsMade (length syms.new.symbols) (seen_made heap.new m)) }
     ensures told { IfErr result IsTold }
@@ -126,7 +126,7 @@ pub fn step<E: Engine>(
     progress: &mut Progress,
     form: Word,
 ) -> Result<Made, Refused>
-    requires fits { E.fits engine.old heap.old world.now (length syms.old.symbols) }
+    requires fits { E.fits engine.old heap.old world.now syms.old }
     requires world { WorldLies heap.old world.now }
     requires word { Lies heap.old form }
     requires supplies { KnowsSupplies (length syms.old.symbols) (seen_world heap.old world.now) }
@@ -136,7 +136,7 @@ pub fn step<E: Engine>(
     ensures grows { Grown syms.old syms.new heap.old heap.new }
     ensures packages { syms.new.packages ≡ syms.old.packages }
     ensures live { E.live engine.new ≡ E.live engine.old }
-    ensures fits { E.fits engine.new heap.new world.now (length syms.new.symbols) }
+    ensures fits { E.fits engine.new heap.new world.now syms.new }
     ensures counts { IsWithin progress.new limits.steps }
     ensures known { IfOk result (λ m. KnowsMade (length syms.new.symbols) (seen_made heap.new m)) }
     ensures told { IfErr result IsTold }
@@ -174,7 +174,7 @@ pub fn settle<E: Engine>(
     progress: &mut Progress,
     form: Word,
 ) -> Result<Found, Refused>
-    requires fits { E.fits engine.old heap.old world.now (length syms.old.symbols) }
+    requires fits { E.fits engine.old heap.old world.now syms.old }
     requires world { WorldLies heap.old world.now }
     requires word { Lies heap.old form }
     requires supplies { KnowsSupplies (length syms.old.symbols) (seen_world heap.old world.now) }
@@ -184,7 +184,7 @@ pub fn settle<E: Engine>(
     ensures grows { Grown syms.old syms.new heap.old heap.new }
     ensures packages { syms.new.packages ≡ syms.old.packages }
     ensures live { E.live engine.new ≡ E.live engine.old }
-    ensures fits { E.fits engine.new heap.new world.now (length syms.new.symbols) }
+    ensures fits { E.fits engine.new heap.new world.now syms.new }
     ensures counts { IsWithin progress.new limits.steps }
     ensures known { IfOk result (λ f. KnowsFound (length syms.new.symbols) (seen_found heap.new f)) }
     ensures told { IfErr result IsTold }
@@ -222,7 +222,7 @@ pub fn rest_found<E: Engine>(
     row: Row,
     left: Left,
 ) -> Result<Found, Refused>
-    requires fits { E.fits engine.old heap.old world.now (length syms.old.symbols) }
+    requires fits { E.fits engine.old heap.old world.now syms.old }
     requires world { WorldLies heap.old world.now }
     requires left { LeftLies heap.old left }
     requires row { RestFits heap.old row left }
@@ -234,7 +234,7 @@ pub fn rest_found<E: Engine>(
     ensures grows { Grown syms.old syms.new heap.old heap.new }
     ensures packages { syms.new.packages ≡ syms.old.packages }
     ensures live { E.live engine.new ≡ E.live engine.old }
-    ensures fits { E.fits engine.new heap.new world.now (length syms.new.symbols) }
+    ensures fits { E.fits engine.new heap.new world.now syms.new }
     ensures counts { IsWithin progress.new limits.steps }
     ensures known { IfOk result (λ f. KnowsFound (length syms.new.symbols) (seen_found heap.new f)) }
     ensures told { IfErr result IsTold }

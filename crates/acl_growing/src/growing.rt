@@ -31,10 +31,10 @@ use std::alloc::{AllocError, Global};
 /// How deep a core form may be.
 const DEEPEST: u32 = 2_048;
 
-/// The core form of a part, where so many levels are left.
+/// The core form of a part, or its first fault in preorder, where so many levels are left.
 #[cycle(grow)]
 #[tactic(auto, using(acl_forms::specs::Growth::growing, crate::proofs::GrowLemmas::grown_end, crate::proofs::GrowLemmas::grown_fails, crate::proofs::GrowLemmas::grown_leaf, acl_expand::proofs::KnownLemmas::memory_told))]
-fn grow<E: Engine>(
+pub fn grow<E: Engine>(
     alloc: Global,
     world: &World,
     heap: &mut Heap,
@@ -45,7 +45,7 @@ fn grow<E: Engine>(
     part: Part,
     left: u32,
 ) -> Result<Core, Refused>
-    requires fits { E.fits engine.old heap.old world.now (length syms.old.symbols) }
+    requires fits { E.fits engine.old heap.old world.now syms.old }
     requires world { WorldLies heap.old world.now }
     requires part { part_reach part ≤ length heap.old }
     requires rest { PartFits heap.old part }
@@ -56,7 +56,7 @@ fn grow<E: Engine>(
     ensures grows { Grown syms.old syms.new heap.old heap.new }
     ensures packages { syms.new.packages ≡ syms.old.packages }
     ensures live { E.live engine.new ≡ E.live engine.old }
-    ensures fits { E.fits engine.new heap.new world.now (length syms.new.symbols) }
+    ensures fits { E.fits engine.new heap.new world.now syms.new }
     ensures counts { IsWithin progress.new limits.steps }
     ensures known { IfOk result (λ f. KnowsForm (length syms.new.symbols) (seen_core heap.new f)) }
     ensures told { IfErr result IsTold }
@@ -117,7 +117,7 @@ fn grow_all<E: Engine>(
     parts: &[Part],
     left: u32,
 ) -> Result<Vec<Core>, Refused>
-    requires fits { E.fits engine.old heap.old world.now (length syms.old.symbols) }
+    requires fits { E.fits engine.old heap.old world.now syms.old }
     requires world { WorldLies heap.old world.now }
     requires parts { parts_reach parts.now ≤ length heap.old }
     requires rest { PartsFit heap.old parts.now }
@@ -128,7 +128,7 @@ fn grow_all<E: Engine>(
     ensures grows { Grown syms.old syms.new heap.old heap.new }
     ensures packages { syms.new.packages ≡ syms.old.packages }
     ensures live { E.live engine.new ≡ E.live engine.old }
-    ensures fits { E.fits engine.new heap.new world.now (length syms.new.symbols) }
+    ensures fits { E.fits engine.new heap.new world.now syms.new }
     ensures counts { IsWithin progress.new limits.steps }
     ensures known { IfOk result (λ fs. KnowsForms (length syms.new.symbols) (seen_cores heap.new fs.items)) }
     ensures told { IfErr result IsTold }
@@ -158,7 +158,7 @@ pub fn expand<E: Engine>(
     progress: &mut Progress,
     form: Word,
 ) -> Result<Core, Refused>
-    requires fits { E.fits engine.old heap.old world.now (length syms.old.symbols) }
+    requires fits { E.fits engine.old heap.old world.now syms.old }
     requires world { WorldLies heap.old world.now }
     requires form { Lies heap.old form }
     requires supplies { KnowsSupplies (length syms.old.symbols) (seen_world heap.old world.now) }
@@ -168,7 +168,7 @@ pub fn expand<E: Engine>(
     ensures grows { Grown syms.old syms.new heap.old heap.new }
     ensures packages { syms.new.packages ≡ syms.old.packages }
     ensures live { E.live engine.new ≡ E.live engine.old }
-    ensures fits { E.fits engine.new heap.new world.now (length syms.new.symbols) }
+    ensures fits { E.fits engine.new heap.new world.now syms.new }
     ensures counts { IsWithin progress.new limits.steps }
     ensures known { IfOk result (λ f. KnowsForm (length syms.new.symbols) (seen_core heap.new f)) }
     ensures told { IfErr result IsTold }

@@ -7,7 +7,7 @@ mod placed;
 mod placing;
 mod ready;
 
-pub use growing::expand;
+pub use growing::{expand, grow};
 pub use node::core_of_node;
 pub use placed::Placed;
 pub use placing::part_found;

@@ -82,7 +82,7 @@ pub fn part_found<E: Engine>(
     part: Part,
     left: u32,
 ) -> Result<Placed, Refused>
-    requires fits { E.fits engine.old heap.old world.now (length syms.old.symbols) }
+    requires fits { E.fits engine.old heap.old world.now syms.old }
     requires world { WorldLies heap.old world.now }
     requires part { part_reach part ≤ length heap.old }
     requires rest { PartFits heap.old part }
@@ -93,7 +93,7 @@ pub fn part_found<E: Engine>(
     ensures grows { Grown syms.old syms.new heap.old heap.new }
     ensures packages { syms.new.packages ≡ syms.old.packages }
     ensures live { E.live engine.new ≡ E.live engine.old }
-    ensures fits { E.fits engine.new heap.new world.now (length syms.new.symbols) }
+    ensures fits { E.fits engine.new heap.new world.now syms.new }
     ensures counts { IsWithin progress.new limits.steps }
     ensures known { IfOk result (λ q. KnowsFound (length syms.new.symbols) (seen_placed heap.new q)) }
     ensures told { IfErr result IsTold }

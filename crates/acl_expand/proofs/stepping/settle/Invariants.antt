@@ -9,7 +9,7 @@ use Rattle.acl_expand.proofs.stepping.settle.Given as goal
 
 abbrev pub invariant-uses : goal.invariant-uses
 invariant-uses g l = Lies l.heap l.at × Grown l.initial.syms l.syms l.initial.heap l.heap × (l.syms.packages ≡ l.initial.syms.packages)
-    × (g.E.Engine.live l.engine ≡ g.E.Engine.live l.initial.engine) × g.E.Engine.fits l.engine l.heap l.world (length l.syms.symbols) × IsWithin l.progress l.limits.steps
+    × (g.E.Engine.live l.engine ≡ g.E.Engine.live l.initial.engine) × g.E.Engine.fits l.engine l.heap l.world l.syms × IsWithin l.progress l.limits.steps
     × (expansion.settled (setting_at l.initial.heap l.world l.initial.syms l.limits.steps l.limits.depth) (l.limits.steps - l.initial.progress.calls) (object_of l.initial.heap l.fn.form) (seen_progress l.initial.syms.symbols l.initial.progress)
     ≡ expansion.settled (setting_at l.initial.heap l.world l.initial.syms l.limits.steps l.limits.depth) l.left (object_of l.heap l.at) (seen_progress l.syms.symbols l.progress))
     × Knows (length l.syms.symbols) (object_of l.heap l.at)

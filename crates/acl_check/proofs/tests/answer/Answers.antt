@@ -1,6 +1,0 @@
-use Rattle.std.proofs.Common.{arith}
-use Rattle.acl_check.proofs.SmallLemmas.{small_fits}
-use Rattle.acl_check.proofs.tests.answer.Goals as goal
-
-pub check_form-requires : goal.check_form-requires
-check_form-requires c = small_fits _ 10 _ (omega arith) (c.fits.ensures c.if-fits.true)

@@ -1,0 +1,3 @@
+pub mod ExecutableLemmas
+pub mod BodyLemmas
+pub mod CountLemmas
