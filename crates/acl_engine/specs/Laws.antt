@@ -4,7 +4,7 @@ use Rattle.model_symbols.specs.Symbols.{QualifiedName}
 use Rattle.model_eval.specs.Outcomes as outcomes
 use Rattle.acl_heap.specs.Objects.{Objects}
 use Rattle.acl_terms.specs.declared.outcome.Stop.TheVariants as stop
-use Rattle.acl_terms.specs.declared.outcome.Outcome.{Outcome}
+use Rattle.acl_engine.specs.declared.outcome.Outcome.{Outcome}
 use Rattle.acl_engine.specs.Outcomes.{IsOutcome}
 
 -- an outcome of the program stands for one outcome of the definitions at most, unless memory was refused

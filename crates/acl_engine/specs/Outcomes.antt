@@ -17,7 +17,7 @@ use Rattle.acl_terms.specs.declared.outcome.Shown.{Shown}
 use Rattle.acl_terms.specs.declared.outcome.Shown.TheVariants as shown
 use Rattle.acl_terms.specs.declared.outcome.Stop.{Stop}
 use Rattle.acl_terms.specs.declared.outcome.Stop.TheVariants as stop
-use Rattle.acl_terms.specs.declared.outcome.Outcome.{Outcome}
+use Rattle.acl_engine.specs.declared.outcome.Outcome.{Outcome}
 use Rattle.acl_terms.specs.Forms.{most, seen_core}
 use Rattle.acl_terms.specs.Signatures.{seen_name}
 use Rattle.acl_worlds.specs.Contents.{Content}

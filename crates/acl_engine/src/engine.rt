@@ -12,10 +12,11 @@ ghost use Rattle.model_symbols.specs.Symbols.{Table};
 ghost use Rattle.model_terms.specs.Faults.{formal_names};
 ghost use Rattle.acl_engine.specs.Outcomes.{macro_value, seen_body, IsOutcome, IsMacroOf, words_at, outcome_words};
 
+use crate::outcome::Outcome;
 use acl_base::{Limits, Word};
 use acl_heap::Heap;
 use acl_syms::Symbols;
-use acl_terms::{Macro, Outcome};
+use acl_terms::Macro;
 use acl_worlds::World;
 
 /// What evaluates the bodies of macros.

@@ -4,8 +4,10 @@
 ghost use Rattle.acl_engine.specs.Laws.{TellsOneOutcome};
 
 mod engine;
+mod outcome;
 
 pub use engine::Engine;
+pub use outcome::Outcome;
 
 /// An outcome that is not want of memory stands for one outcome of the definitions alone.
 #[tactic(auto, using(crate::proofs::LawLemmas::tells_one))]

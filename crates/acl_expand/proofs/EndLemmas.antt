@@ -10,7 +10,7 @@ use Rattle.model_expansion.specs.Forms.{elements}
 use Rattle.model_expansion.specs.Expansion.{Setting, Fails, again, used, body_value, macro_values}
 use Rattle.model_expansion.specs.Expansion as expansion
 use Rattle.acl_heap.specs.Objects.{Objects}
-use Rattle.acl_terms.specs.declared.outcome.Outcome.{Outcome}
+use Rattle.acl_engine.specs.declared.outcome.Outcome.{Outcome}
 use Rattle.acl_terms.specs.declared.outcome.Stop.{Stop}
 use Rattle.model_objects.specs.Object.{Object}
 use Rattle.model_prims.specs.Kinds.{by_number}

@@ -26,7 +26,7 @@ use Rattle.acl_terms.specs.declared.fault.ExpandFault.TheVariants as fault
 use Rattle.acl_terms.specs.declared.outcome.Shown.{Shown}
 use Rattle.acl_terms.specs.declared.outcome.Shown.TheVariants as shown
 use Rattle.acl_terms.specs.declared.outcome.Stop.{Stop}
-use Rattle.acl_terms.specs.declared.outcome.Outcome.{Outcome}
+use Rattle.acl_engine.specs.declared.outcome.Outcome.{Outcome}
 use Rattle.acl_terms.specs.Growth.{seen_definitions-later}
 use Rattle.acl_worlds.specs.Contents.{Content, seen_world, WorldLies}
 use Rattle.acl_layers.specs.Lists.{items_along}

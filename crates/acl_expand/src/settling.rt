@@ -19,10 +19,11 @@ ghost use Rattle.acl_expand.specs.Progresses.{seen_progress, EndsMade};
 
 use crate::progress::{Origin, Progress, Refused, no_stop};
 use acl_base::{Limits, SymId, Word};
+use acl_engine::Outcome;
 use acl_heap::Heap;
 use acl_layers::{Made, Row, elements, made_of};
 use acl_syms::Symbols;
-use acl_terms::{ExpandFault, Outcome, Shown, Stop};
+use acl_terms::{ExpandFault, Shown, Stop};
 use acl_worlds::World;
 use std::alloc::Global;
 

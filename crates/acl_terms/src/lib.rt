@@ -18,7 +18,7 @@ pub use definition::{
 pub use fault::{AbsFault, DefFault, ExpandFault, Place, ThreadFault};
 pub use form::Core;
 pub use model_terms::{AbstractRole, Mode, Role, Rule};
-pub use outcome::{Outcome, Shown, Stop};
+pub use outcome::{Shown, Stop};
 pub use scope::Scope;
 pub use signature::{Entry, Out, Signature};
 pub use stobj::{AbsDescriptor, AbsFunction, Descriptor, FieldDescriptor, Shape};

@@ -1,7 +1,6 @@
 //! What evaluations give.
 
 use acl_base::{SymId, Word};
-use smallvec::SmallVec;
 use sqlite_items::Items;
 
 /// What a form gives, and what a variable or a formal is.
@@ -30,21 +29,4 @@ pub enum Stop {
     Symbols { function: SymId },
     /// Memory was refused.
     Memory,
-}
-
-/// How an evaluation ended.
-#[derive(Drop)]
-pub struct Outcome {
-    /// Why it stopped, where it did.
-    pub stop: Option<Stop>,
-    /// What it gave, where it did not stop.
-    pub values: SmallVec<Shown, 4>,
-    /// The calls counted so far, those from before it among them.
-    pub calls: u64,
-    /// Its calls that no export made.
-    pub outer: u64,
-    /// The outermost export that a stop came inside.
-    pub inside: Option<SymId>,
-    /// The number of the outer call that a stop came at or inside, from 1 on.
-    pub cut: u64,
 }
