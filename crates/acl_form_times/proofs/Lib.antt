@@ -1,0 +1,2 @@
+mod SimpleLemmas
+pub mod RoundLemmas
