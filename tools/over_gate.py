@@ -46,7 +46,7 @@ def collect(kept, gate, log):
     os.makedirs(kept, exist_ok=True)
     while True:
         with open(log, encoding="utf-8", errors="replace") as it:
-            names = re.findall(r"^rt: (\w+) proved", it.read(), re.M)
+            names = re.findall(r"^rt: (\w+) (?:proved|is kept)", it.read(), re.M)
         for name in names:
             folder, to = f"{gate}/crates/{name}/out/rlib/{name}.rlib", f"{kept}/{name}.rlib"
             if os.path.isdir(folder) and not os.path.isdir(to):

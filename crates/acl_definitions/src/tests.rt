@@ -20,7 +20,7 @@ fn constant(name: u32) -> Definition
 }
 
 #[test]
-#[tactic(auto, using(acl_worlds::proofs::PrimitiveLemmas::no_primitives))]
+#[tactic(auto, using(acl_worlds::proofs::PrimitiveLemmas::no_primitives, crate::proofs::TestLemmas::two_distinct))]
 fn two_definitions(rt: HostRuntime) -> Result<(), Fail> {
     let mut world = World::new(rt.alloc(), &[])?;
     let mut both = Vec::new(rt.alloc());

@@ -1,0 +1,3 @@
+pub mod AdmitLemmas
+pub mod ReadyLemmas
+pub mod TestLemmas

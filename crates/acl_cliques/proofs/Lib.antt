@@ -1,0 +1,4 @@
+pub mod DefineLemmas
+pub mod EnterLemmas
+pub mod StandLemmas
+pub mod WorldLemmas
