@@ -1,0 +1,4 @@
+pub mod ListLemmas
+pub mod NewLemmas
+pub mod OldLemmas
+pub mod TreeLemmas
