@@ -1,4 +1,4 @@
--- The terms of a world's functions are numbers of a table; the worlds in which they were checked.
+-- The terms of a world's functions are numbers of a table (those of macros are not asked for); the worlds in which they were checked.
 use Rattle.std.specs.Prelude.{◌<◌, List, length, is_some, if◌then◌else◌}
 use Rattle.std.specs.List.{AllByRecursion}
 use Rattle.model_terms.specs.Worlds.{World}
