@@ -1,2 +1,4 @@
+pub mod BeginLemmas
+pub mod FunctionLemmas
 pub mod KeepLemmas
 pub mod PlainLemmas

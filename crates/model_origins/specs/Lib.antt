@@ -1,3 +1,4 @@
+pub mod Admitted
 pub mod Going
 pub mod Laws
 pub mod Plain

@@ -26,3 +26,16 @@ IsPlain (Abstract d) = ⊥
 IsPlain (OfAbstract f) = ⊥
 IsPlain (Named name formals) = Unit {0}
 IsPlain (Signed name formals signature executable) = Unit {0}
+
+-- a primitive or a constant
+abbrev pub IsBare : Definition → Type 0
+IsBare (Primitive name row) = Unit {0}
+IsBare (Defined f) = ⊥
+IsBare (Macro name formals body) = ⊥
+IsBare (Constant name value) = Unit {0}
+IsBare (Concrete d class) = ⊥
+IsBare (Generated g) = ⊥
+IsBare (Abstract d) = ⊥
+IsBare (OfAbstract f) = ⊥
+IsBare (Named name formals) = ⊥
+IsBare (Signed name formals signature executable) = ⊥
