@@ -40,10 +40,10 @@ not_signed (Named name formals) a s = s
 not_signed (Signed name formals signature executable) a s = a
 
 -- a lawful world suits itself
-suits_itself : (w : World) → IsLawfulWorld w → Suits w w
+pub suits_itself : (w : World) → IsLawfulWorld w → Suits w w
 suits_itself w l = lawful_worlds.suits w l.lawful (λ x d e. not_signed d (l.admitted x d e))
 
-body_here : (w : World) → IsLawfulWorld w → (formals : MacroFormals) (body : Core) (tree : Tree) → IsWellCalled w body → macro_fault w formals body ≡ None
+abbrev pub body_here : (w : World) → IsLawfulWorld w → (formals : MacroFormals) (body : Core) (tree : Tree) → IsWellCalled w body → macro_fault w formals body ≡ None
     → resolved w (formal_environment (formal_names formals)) (length (formal_names formals)) body ≡ Some tree → HasBody w formals body tree
 body_here w l formals body tree called accepted is = record {
   world = w;

@@ -35,6 +35,7 @@ use Rattle.model_made.proofs.CandidateLemmas.{named, IsExpanded, AreExpanded, Ar
 use Rattle.model_made.proofs.FunctionLemmas.{functions_lawful}
 use Rattle.model_origins.specs.Plain.{IsOfNoStobj}
 use Rattle.model_origins.specs.Going.{GoOn, HaveElse}
+use Rattle.model_origins.specs.Before.{IsBefore}
 use Rattle.model_origins.specs.Admitted.{AreAdmitted, checking_world, world_with}
 use Rattle.model_origins.specs.Laws.{FunctionsKeepOrigins, EventsAdmit}
 use Rattle.model_origins.proofs.KeepLemmas.{origins_still, threaded_still, body_still}
@@ -84,13 +85,13 @@ all_defined known [] = tt
 all_defined known (c ∷ cs) = (tt, all_defined known cs)
 
 module _ (w : World) (cs : List Candidate) (l : IsLawfulWorld w) (a : AreAdmitted w cs) where
-  abbrev sigs : List (ℕ × Signature)
+  abbrev pub sigs : List (ℕ × Signature)
   sigs = signatures w cs
 
-  abbrev ruling : World
+  abbrev pub ruling : World
   ruling = checking_world w cs
 
-  abbrev after : World
+  abbrev pub after : World
   after = world_with w cs
 
   signed_stand : Stand (signed sigs)
@@ -159,9 +160,11 @@ module _ (w : World) (cs : List Candidate) (l : IsLawfulWorld w) (a : AreAdmitte
               let there : definition after x ≡ Some (defined sigs c.0) = definition_new w (map (defined sigs) cs) x f.0 ∙ (standing_at (defined sigs) defined_stand cs x ∙ ap (option_map (defined sigs)) at_name) in
               subst (IsSettled after x) (sym c.3) (_, there, refl, refl)
 
+  pub before_after : IsBefore ruling after
+  before_after = record { closed = closed_grown w (map (signed sigs) cs) l ruling_brings; stobjs = objects_grown w (map (signed sigs) cs) l ruling_brings; becomes = becomes_after }
+
   suits_after : Suits ruling after
-  suits_after =
-      suits_what_it_becomes.suits ruling after (closed_grown w (map (signed sigs) cs) l ruling_brings) (objects_grown w (map (signed sigs) cs) l ruling_brings) becomes_after
+  suits_after = suits_what_it_becomes.suits ruling after before_after.closed before_after.stobjs before_after.becomes
 
   ruling_made : (x : ℕ) (d : Definition) → definition ruling x ≡ Some d → IsWellMade ruling d
   ruling_made = made_grown w (map (signed sigs) cs) l ruling_brings

@@ -1,3 +1,4 @@
+pub mod BeforeLemmas
 pub mod BeginLemmas
 pub mod FunctionLemmas
 pub mod KeepLemmas

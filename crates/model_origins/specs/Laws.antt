@@ -18,6 +18,7 @@ use Rattle.model_books.specs.Opening.{opening_world}
 use Rattle.model_made.specs.Lawful.{IsLawfulWorld}
 use Rattle.model_origins.specs.Plain.{IsOfNoStobj, IsPlain, IsBare}
 use Rattle.model_origins.specs.Going.{GoOn, HaveElse}
+use Rattle.model_origins.specs.Before.{IsBefore, AreBefore, HadBody, HasNoCode}
 use Rattle.model_origins.specs.Admitted.{AreAdmitted, checking_world, world_with}
 
 -- definitions of no stobj change nothing that was found in a world; where none of them is a function that was written, the
@@ -53,3 +54,17 @@ pub record PlainWorldsHaveOrigins : Type 0 where
   pub origins : (w : World) → AllByRecursion IsPlain w → (origins : Origins) → AreOrigins w origins
   pub opening : AllByRecursion IsBare opening_world
   pub threaded : IsThreaded opening_world
+
+-- where the worlds in which functions were checked became the world, also stobjs may enter: any definitions without functions that
+-- were written and without functions of abstract stobjs
+pub record WorldsBeforeStay : Type 0 where
+  pub suits : (c w : World) → IsBefore c w → Suits c w
+  pub later : (w new : World) → IsLawfulWorld w → (c : World) → IsBefore c w → IsBefore c (w ++ new)
+  pub before : (w new : World) → IsLawfulWorld w → AllByRecursion HasNoCode new → (origins : Origins) → AreBefore w origins → AreBefore (w ++ new) origins
+  pub origins : (w new : World) → IsLawfulWorld w → AllByRecursion HasNoCode new → (origins : Origins) → AreBefore w origins → AreOrigins w origins → AreOrigins (w ++ new) origins
+  pub functions : (w : World) (cs : List Candidate) → IsLawfulWorld w → AreAdmitted w cs → (old later : Origins) → GoOn w old later → HaveElse w (checking_world w cs) later
+      → AreBefore w old → AreBefore (world_with w cs) later
+  pub body : (w new : World) → IsLawfulWorld w → (formals : MacroFormals) (body : Core) (tree : Tree) → HadBody w formals body tree → HadBody (w ++ new) formals body tree
+  pub macro : (w new : World) → IsLawfulWorld w → (formals : MacroFormals) (body : Core) (tree : Tree) → IsWellCalled w body → macro_fault w formals body ≡ None
+      → resolved w (formal_environment (formal_names formals)) (length (formal_names formals)) body ≡ Some tree → HadBody (w ++ new) formals body tree
+  pub plain : (w : World) → AllByRecursion IsPlain w → (origins : Origins) → AreBefore w origins

@@ -1,7 +1,7 @@
 //! Laws on the worlds in which functions were checked, and on the bodies of macros, as a world grows.
 #![tactic(auto)]
 
-ghost use Rattle.model_origins.specs.Laws.{PlainDefinitionsKeepOrigins, FunctionsKeepOrigins, EventsAdmit, MacrosHaveBodies, PlainWorldsHaveOrigins};
+ghost use Rattle.model_origins.specs.Laws.{PlainDefinitionsKeepOrigins, FunctionsKeepOrigins, EventsAdmit, MacrosHaveBodies, PlainWorldsHaveOrigins, WorldsBeforeStay};
 
 /// Functions to come, constants and macros keep a world threaded; the worlds in which its functions were checked suit it still,
 /// and the bodies of its macros are as they were.
@@ -32,4 +32,10 @@ pub fn macros_have_bodies()
 #[tactic(auto, using(crate::proofs::BeginLemmas::plain_worlds_have_origins))]
 pub fn plain_worlds_have_origins()
     ensures { PlainWorldsHaveOrigins }
+{}
+
+/// Where the worlds in which functions and macros were checked became the world, what was found in them is found also once stobjs enter.
+#[tactic(auto, using(crate::proofs::BeforeLemmas::worlds_before_stay))]
+pub fn worlds_before_stay()
+    ensures { WorldsBeforeStay }
 {}
