@@ -1,0 +1,34 @@
+//! Laws on what the engine of lists asks of a world, as definitions enter it.
+#![tactic(auto)]
+
+ghost use Rattle.acl_fitting.specs.Laws.{PlainDefinitionsFit, FunctionsFit, StobjsFit, OpeningFits, GrowthFits};
+
+/// A table of terms fits a world still where functions to come, constants and macros enter.
+#[tactic(auto, using(crate::proofs::FitLemmas::plain_definitions_fit))]
+pub fn plain_definitions_fit()
+    ensures { PlainDefinitionsFit }
+{}
+
+/// So it does where functions enter that are admitted together.
+#[tactic(auto, using(crate::proofs::FitLemmas::functions_fit))]
+pub fn functions_fit()
+    ensures { FunctionsFit }
+{}
+
+/// So it does where stobjs enter with their functions.
+#[tactic(auto, using(crate::proofs::FitLemmas::stobjs_fit))]
+pub fn stobjs_fit()
+    ensures { StobjsFit }
+{}
+
+/// A table without terms fits the world that every session begins with.
+#[tactic(auto, using(crate::proofs::BeginLemmas::opening_fits))]
+pub fn opening_fits()
+    ensures { OpeningFits }
+{}
+
+/// A table fits a world still as heap and symbols grow.
+#[tactic(auto, using(crate::proofs::BeginLemmas::growth_fits))]
+pub fn growth_fits()
+    ensures { GrowthFits }
+{}
