@@ -1,7 +1,7 @@
 //! Laws on what the engine of lists asks of a world, as definitions enter it.
 #![tactic(auto)]
 
-ghost use Rattle.acl_fitting.specs.Laws.{PlainDefinitionsFit, FunctionsFit, StobjsFit, OpeningFits, GrowthFits};
+ghost use Rattle.acl_fitting.specs.Laws.{PlainDefinitionsFit, FunctionsFit, StobjsFit, EnteredStobjsFit, DescriptorsAreTyped, OpeningFits, GrowthFits};
 
 /// A table of terms fits a world still where functions to come, constants and macros enter.
 #[tactic(auto, using(crate::proofs::FitLemmas::plain_definitions_fit))]
@@ -19,6 +19,18 @@ pub fn functions_fit()
 #[tactic(auto, using(crate::proofs::FitLemmas::stobjs_fit))]
 pub fn stobjs_fit()
     ensures { StobjsFit }
+{}
+
+/// So it does where a stobj has entered with its layout.
+#[tactic(auto, using(crate::proofs::EnterLemmas::entered_stobjs_fit))]
+pub fn entered_stobjs_fit()
+    ensures { EnteredStobjsFit }
+{}
+
+/// The definition of a stobj is granted only where the types of its fields are accepted.
+#[tactic(auto, using(crate::proofs::TypeLemmas::descriptors_are_typed))]
+pub fn descriptors_are_typed()
+    ensures { DescriptorsAreTyped }
 {}
 
 /// A table without terms fits the world that every session begins with.
