@@ -1,5 +1,5 @@
 -- A table without terms fits the opening world, and any goes on to fit as heap and symbols grow.
-use Rattle.std.specs.Prelude.{◌≡◌, ℕ, zero, suc, ◌<◌, ◌≤◌, List, [], ◌∷◌, length, max, get_or, Some, slice_get}
+use Rattle.std.specs.Prelude.{◌≡◌, ℕ, zero, suc, ◌<◌, ◌≤◌, List, [], ◌∷◌, length, max, get_or}
 use Rattle.std.specs.List.{AllByRecursion, Contains}
 use Rattle.std.proofs.Common.{sym, subst, arith}
 use Rattle.model_symbols.specs.Symbols.{Table}
@@ -23,12 +23,10 @@ use Rattle.acl_terms.specs.declared.definition.Definition.TheVariants as definit
 use Rattle.acl_terms.specs.declared.definition.Macro as coded
 use Rattle.acl_worlds.specs.Contents.{Content, IsWorld, WorldLies, seen_world}
 use Rattle.acl_code.specs.declared.term.Term.{Term}
-use Rattle.acl_code.specs.Constants.{ConstantsAreKnown}
-use Rattle.acl_code.specs.Tables.{TermsLie, forest, tree_in, tree_at}
+use Rattle.acl_code.specs.Tables.{forest, tree_in, tree_at}
 use Rattle.acl_code.proofs.LawLemmas.{heaps_grow}
 use Rattle.acl_machine.specs.Views.{code_with}
 use Rattle.acl_exec_turns.proofs.ReadLemmas.{primitives_stand}
-use Rattle.acl_origins.specs.Bodies.{HadBodies}
 use Rattle.acl_origins.specs.Were.{WereRun}
 use Rattle.acl_origins.proofs.PlainLemmas.{plain_worlds_are_run}
 use Rattle.acl_pure.specs.Stays.{fits_later}

@@ -1,7 +1,7 @@
 -- A stobj that has entered with its functions.
-use Rattle.std.specs.Prelude.{◌≡◌, ◌⊎◌, ℕ, List, [], ◌∷◌, ◌++◌, map, length, Option, Some, None, refl}
+use Rattle.std.specs.Prelude.{◌≡◌, ℕ, List, [], ◌∷◌, length, Some, refl}
 use Rattle.std.specs.List.{AllByRecursion}
-use Rattle.std.proofs.Common.{sym, ap, subst, inl, inr}
+use Rattle.std.proofs.Common.{sym, ap, subst}
 use Rattle.model_symbols.specs.Symbols.{Table}
 use Rattle.model_terms.specs.Worlds as worlds
 use Rattle.model_terms.specs.Worlds.{World}

@@ -1,12 +1,11 @@
 -- A table of terms fits a world with more definitions.
-use Rattle.std.specs.Prelude.{◌≡◌, ◌≤◌, List, [], ◌∷◌, ◌++◌, map, length, take, refl}
-use Rattle.std.specs.List.{AllByRecursion, Contains}
-use Rattle.std.proofs.Common.{sym, ap, ◌∙◌, subst, arith}
+use Rattle.std.specs.Prelude.{◌≡◌, ◌≤◌, List, [], ◌∷◌, ◌++◌, length, take, refl}
+use Rattle.std.specs.List.{AllByRecursion}
+use Rattle.std.proofs.Common.{sym, ap, subst, arith}
 use Rattle.model_symbols.specs.Symbols.{Table}
 use Rattle.model_terms.specs.Worlds.{World}
 use Rattle.model_known.specs.Known.{KnowsStarts}
-use Rattle.model_macro_bodies.specs.Bodies.{HasBody}
-use Rattle.model_events.specs.Functions.{Candidate, signatures, defined}
+use Rattle.model_events.specs.Functions.{Candidate, signatures}
 use Rattle.model_made.specs.Lawful.{IsLawfulWorld}
 use Rattle.model_origins.specs.Plain.{IsOfNoStobj, IsPlain}
 use Rattle.model_origins.specs.Admitted.{AreAdmitted}
@@ -31,9 +30,8 @@ use Rattle.acl_origins.specs.Were.{WereRun}
 use Rattle.acl_origins.proofs.RunLemmas.{all_plain, plain_definitions_keep_runs, stobjs_keep_runs}
 use Rattle.acl_origins.proofs.EnteredLemmas.{functions_keep_runs}
 use Rattle.acl_origins.proofs.BodyLemmas.{bodies_are_kept}
-use Rattle.acl_pure.specs.Fitting.{Fits}
 use Rattle.acl_fitting.specs.Going.{FitsOn, TableGrows}
-use Rattle.acl_fitting.specs.Laws.{PlainDefinitionsFit, FunctionsFit, StobjsFit}
+use Rattle.acl_fitting.specs.Laws.{PlainDefinitionsFit, TablesStay, FunctionsFit, StobjsFit}
 use Rattle.acl_fitting.proofs.WorldLemmas.{all_lie, world_fits, none_typed, none_known}
 
 take_all : {A : Type 0} (xs : List A) → take (length xs) xs ≡ xs
@@ -95,15 +93,22 @@ functions_in t h old new cs before after table world entered a l f =
     (bodies_are_kept.none_within after ds bare) (bodies_are_kept.none h (seen_world h new) after ds bare)
     (functions_bring_trees.within h old new before after cs f.within table.grown entered)
 
+unchanged : (t : Table) (h : Objects) (w : Content) (terms : List Term) → FitsOn terms h w t → TableGrows h (length t.symbols) terms terms
+unchanged t h w terms f = record { grown = same_table terms; lie = f.fits.lie; known = f.fits.known }
+
 stobjs_in : (t : Table) (h : Objects) (old new : Content) (ds : List Definition) (terms : List Term) → IsWorld new → new.definitions ≡ old.definitions ++ ds → WorldLies h new
     → AllByRecursion HasNoCode ds → AllByRecursion HasNoBody ds → AcceptsTypes (seen_definitions h ds) → KnowsStarts (length t.symbols) (seen_definitions h ds)
     → IsLawfulWorld (seen_world h old) → IsLawfulWorld (seen_world h new) → FitsOn terms h old t → FitsOn terms h new t
 stobjs_in t h old new ds terms world e lies plain bare typed starts l k f =
-    let grown = same_table terms in
-    fits_with t h old new ds terms terms (record { grown = grown; lie = f.fits.lie; known = f.fits.known }) world e lies typed starts l f
+    let table = unchanged t h old terms f in
+    let grown = table.grown in
+    fits_with t h old new ds terms terms table world e lies typed starts l f
     (stobjs_keep_runs.were h old new ds terms terms e plain f.within grown l k f.runs)
     (bodies_are_kept.none_within terms ds bare) (bodies_are_kept.none h (seen_world h new) terms ds bare)
     (all_within h old new ds terms terms e f.within grown plain)
+
+pub tables_stay : TablesStay
+tables_stay = record { same = unchanged }
 
 pub plain_definitions_fit : PlainDefinitionsFit
 plain_definitions_fit = record { fit = plain_fit }

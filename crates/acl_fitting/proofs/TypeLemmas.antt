@@ -7,7 +7,7 @@ use Rattle.model_objects.specs.Object.{Object, Integer, Symbol, Text, Pair}
 use Rattle.model_symbols.specs.Symbols.{Package}
 use Rattle.model_lists.specs.Types.{ValueType}
 use Rattle.model_lists.specs.Effects.{most_elements}
-use Rattle.model_terms.specs.Worlds.{World, Shape, Scalar, Array, Hash, Child, Children, Field, Descriptor}
+use Rattle.model_terms.specs.Worlds.{World, Shape, Scalar, Array, Hash, Child, Children, Descriptor}
 use Rattle.model_expansion.specs.Words.{array_word, hash_table_word}
 use Rattle.model_expansion.specs.Forms.{elements, is, symbol_or_nil}
 use Rattle.model_expansion.specs.TypeTerms.{accepted_type}

@@ -1,7 +1,7 @@
 -- A world with more definitions: its words lie in the heap, and its fields have accepted types and known initial values.
-use Rattle.std.specs.Prelude.{◌≡◌, ◌⊎◌, ℕ, ◌≤◌, List, [], ◌∷◌, ◌++◌, length, max, Option, Some, None}
+use Rattle.std.specs.Prelude.{◌≡◌, ◌⊎◌, ℕ, ◌≤◌, List, [], ◌∷◌, ◌++◌, length, Some, None}
 use Rattle.std.specs.List.{AllByRecursion}
-use Rattle.std.proofs.Common.{sym, ap, ◌∙◌, subst, arith, inl, inr}
+use Rattle.std.proofs.Common.{sym, subst, arith, inl, inr}
 use Rattle.model_terms.specs.Worlds as worlds
 use Rattle.model_terms.specs.Worlds.{World}
 use Rattle.model_terms.specs.Accessors.{descriptor_in}
@@ -10,7 +10,7 @@ use Rattle.model_origins.specs.Plain.{IsOfNoStobj}
 use Rattle.model_origins.proofs.PlainLemmas.{each_found, definition_is}
 use Rattle.acl_heap.specs.Objects.{Objects}
 use Rattle.acl_terms.specs.declared.definition.Definition.{Definition}
-use Rattle.acl_terms.specs.Definitions.{seen_definitions, definition_reach, definitions_reach}
+use Rattle.acl_terms.specs.Definitions.{seen_definitions, definitions_reach}
 use Rattle.acl_worlds.specs.Contents.{Content, WorldLies, seen_world}
 use Rattle.acl_layouts.specs.Typed.{AreTyped, AcceptsTypes}
 use Rattle.acl_list_keeper.specs.Sound.{WorldFits}

@@ -35,6 +35,10 @@ pub record PlainDefinitionsFit : Type 0 where
       → definitions_reach ds ≤ length h → AllByRecursion IsPlain (seen_definitions h ds) → MacrosWithin after ds → HadBodies h (seen_world h new) after ds → IsLawfulWorld (seen_world h old)
       → FitsOn before h old t → FitsOn after h new t
 
+-- a table that is as it was
+pub record TablesStay : Type 0 where
+  pub same : (t : Table) (h : Objects) (w : Content) (terms : List Term) → FitsOn terms h w t → TableGrows h (length t.symbols) terms terms
+
 -- functions that are admitted together
 pub record FunctionsFit : Type 0 where
   pub fit : (t : Table) (h : Objects) (old new : Content) (cs : List Candidate) (before after : List Term) → TableGrows h (length t.symbols) before after → IsWorld new → Entered h old new after cs

@@ -1,7 +1,7 @@
 //! Laws on what the engine of lists asks of a world, as definitions enter it.
 #![tactic(auto)]
 
-ghost use Rattle.acl_fitting.specs.Laws.{PlainDefinitionsFit, FunctionsFit, StobjsFit, EnteredStobjsFit, DescriptorsAreTyped, OpeningFits, GrowthFits};
+ghost use Rattle.acl_fitting.specs.Laws.{PlainDefinitionsFit, TablesStay, FunctionsFit, StobjsFit, EnteredStobjsFit, DescriptorsAreTyped, OpeningFits, GrowthFits};
 
 /// A table of terms fits a world still where functions to come, constants and macros enter.
 #[tactic(auto, using(crate::proofs::FitLemmas::plain_definitions_fit))]
@@ -9,7 +9,13 @@ pub fn plain_definitions_fit()
     ensures { PlainDefinitionsFit }
 {}
 
-/// So it does where functions enter that are admitted together.
+/// A table that fits a world is one that has grown by nothing.
+#[tactic(auto, using(crate::proofs::FitLemmas::tables_stay))]
+pub fn tables_stay()
+    ensures { TablesStay }
+{}
+
+/// A table fits a world still where functions enter that are admitted together.
 #[tactic(auto, using(crate::proofs::FitLemmas::functions_fit))]
 pub fn functions_fit()
     ensures { FunctionsFit }

@@ -1,14 +1,13 @@
 -- The bodies of macros, as definitions enter their world.
-use Rattle.std.specs.Prelude.{◌≡◌, ℕ, zero, suc, ◌+◌, ◌-◌, ◌<◌, List, [], ◌∷◌, ◌++◌, map, length, Option, None, Some, slice_index_or, refl}
+use Rattle.std.specs.Prelude.{◌≡◌, zero, suc, List, [], ◌∷◌, ◌++◌, map, None, Some}
 use Rattle.std.specs.List.{AllByRecursion, Contains}
-use Rattle.std.proofs.Common.{sym, ap, ◌∙◌, subst, arith}
+use Rattle.std.proofs.Common.{sym, subst, arith}
 use Rattle.acl_heap.specs.Objects.{Objects}
 use Rattle.model_terms.specs.Worlds.{World}
 use Rattle.model_terms.specs.Faults.{formal_names, macro_fault}
 use Rattle.model_slots.specs.Trees.{Tree}
 use Rattle.model_macro_bodies.specs.Bodies.{HasBody}
 use Rattle.model_expansion_forms.specs.Nodes.{IsWellCalled}
-use Rattle.model_events.specs.Functions.{Candidate}
 use Rattle.model_made.specs.Lawful.{IsLawfulWorld}
 use Rattle.model_origins.specs.Plain.{IsOfNoStobj}
 use Rattle.model_origins.specs.Before.{HadBody}
@@ -25,7 +24,7 @@ use Rattle.acl_code.specs.Tables.{tree_at, Grown, IsBuilt}
 use Rattle.acl_code.proofs.LawLemmas.{tables_grow}
 use Rattle.acl_translate.specs.declared.function_terms.FunctionTerms.{FunctionTerms}
 use Rattle.acl_translate.specs.Functions.{formal_tree}
-use Rattle.acl_cliques.specs.Entered.{terms_in, Entered}
+use Rattle.acl_cliques.specs.Entered.{terms_in}
 use Rattle.acl_origins.specs.Bodies.{MacroWithin, MacrosWithin, HasNoBody, HaveBodies, HadBodies}
 use Rattle.acl_origins.specs.Laws.{BodiesAreKept}
 use Rattle.acl_origins.proofs.RunLemmas.{seen_new}

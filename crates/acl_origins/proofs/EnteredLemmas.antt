@@ -1,5 +1,5 @@
 -- Functions that are admitted together may be run, and those that stood may still.
-use Rattle.std.specs.Prelude.{◌≡◌, ℕ, zero, suc, ◌<◌, List, [], ◌∷◌, ◌++◌, map, length, Bool, true, false, Option, Some, None, slice_get, option_map, is_some, if◌then◌else◌, refl}
+use Rattle.std.specs.Prelude.{◌≡◌, ℕ, zero, suc, ◌<◌, List, [], ◌∷◌, map, length, Bool, true, false, Option, Some, None, slice_get, option_map, is_some, if◌then◌else◌, refl}
 use Rattle.std.proofs.Common.{sym, ap, ◌∙◌, subst, arith}
 use Rattle.acl_heap.specs.Objects.{Objects}
 use Rattle.model_terms.specs.Faults.{Fault, clique_fault}
@@ -7,12 +7,12 @@ use Rattle.model_terms.specs.Worlds.{World, Definition, definition}
 use Rattle.model_accepted.specs.Threaded.{IsThreaded}
 use Rattle.model_slots.specs.Resolved.{number_in}
 use Rattle.model_slots.proofs.WorldLemmas.{keeps_numbers}
-use Rattle.model_window.specs.Stands.{Origins, HoldsTrees}
+use Rattle.model_window.specs.Stands.{Origins}
 use Rattle.model_fitting.specs.Steps.{AreOrigins}
 use Rattle.model_macro_bodies.specs.Bodies.{AreRun}
 use Rattle.model_expansion.specs.Expansion.{Progress, at_start}
-use Rattle.model_expansion.specs.Faults.{Refusal, Thread}
-use Rattle.model_stobjs.specs.Answers.{EventResult, Grants, unless}
+use Rattle.model_expansion.specs.Faults.{Thread}
+use Rattle.model_stobjs.specs.Answers.{Grants, unless}
 use Rattle.model_events.specs.Functions.{Candidate, signatures, defined, members}
 use Rattle.model_made.specs.Lawful.{IsLawfulWorld}
 use Rattle.model_origins.specs.Going.{GoOn, HaveElse}

@@ -1,12 +1,11 @@
 -- What was found in a world that became this one is found however it grows.
-use Rattle.std.specs.Prelude.{◌≡◌, ◌⊎◌, ℕ, List, [], ◌∷◌, ◌++◌, map, length, true, None, Some}
+use Rattle.std.specs.Prelude.{◌≡◌, ◌⊎◌, ℕ, List, ◌++◌, map, length, true, None, Some}
 use Rattle.std.specs.List.{AllByRecursion}
 use Rattle.std.proofs.Common.{sym, subst, inl, inr}
 use Rattle.model_terms.specs.declared.role.AbstractRole.TheVariants as abstract_role
 use Rattle.model_terms.specs.Cores.{Core}
 use Rattle.model_terms.specs.Worlds.{World, Definition, Function, FunctionOfAbstract, MacroFormals, Out, definition, Primitive, Defined, Macro, Constant, Concrete, Generated, Abstract, OfAbstract, Named, Signed}
 use Rattle.model_terms.specs.Faults.{formal_names, macro_fault}
-use Rattle.model_terms.specs.Sites.{one_ordinary}
 use Rattle.model_accepted.specs.Threaded.{Suits}
 use Rattle.model_lawful.specs.Growth.{IsSettled, Becomes}
 use Rattle.model_lawful.proofs.SuitLemmas.{suits_what_it_becomes}
@@ -16,7 +15,6 @@ use Rattle.model_slots.specs.Resolved.{resolved}
 use Rattle.model_slots.proofs.WorldLemmas.{keeps_numbers}
 use Rattle.model_window.specs.Stands.{Origins}
 use Rattle.model_fitting.specs.Steps.{WasAccepted, AreOrigins}
-use Rattle.model_macro_bodies.specs.Bodies.{HasBody}
 use Rattle.model_expansion_forms.specs.Nodes.{IsWellCalled}
 use Rattle.model_events.specs.Functions.{Candidate, signatures, defined}
 use Rattle.model_made.specs.Lawful.{IsLawfulWorld}
@@ -28,7 +26,7 @@ use Rattle.model_origins.specs.Admitted.{AreAdmitted, checking_world, world_with
 use Rattle.model_origins.specs.Laws.{WorldsBeforeStay}
 use Rattle.model_origins.proofs.PlainLemmas.{each_found, definition_is}
 use Rattle.model_origins.proofs.BeginLemmas.{body_here}
-use Rattle.model_origins.proofs.FunctionLemmas.{before_after, all_defined}
+use Rattle.model_origins.proofs.FunctionLemmas.{before_after}
 
 -- ---- what becomes of what a world became
 

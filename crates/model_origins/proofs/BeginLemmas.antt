@@ -1,26 +1,23 @@
 -- A macro that enters has a body, and a world without functions that were written has whatever origins.
 use Rattle.std.specs.Prelude.{◌≡◌, ℕ, List, [], ◌∷◌, ◌++◌, length, None, Some}
 use Rattle.std.specs.List.{AllByRecursion}
-use Rattle.std.proofs.Common.{refl}
 use Rattle.model_prims.specs.Rows.{Row, table}
 use Rattle.model_terms.specs.Cores.{Core}
-use Rattle.model_terms.specs.Worlds.{World, Definition, MacroFormals, definition, Primitive, Defined, Macro, Constant, Concrete, Generated, Abstract, OfAbstract, Named, Signed}
+use Rattle.model_terms.specs.Worlds.{World, Definition, MacroFormals, Primitive, Defined, Macro, Constant, Concrete, Generated, Abstract, OfAbstract, Named, Signed}
 use Rattle.model_terms.specs.Faults.{formal_names, macro_fault}
-use Rattle.model_accepted.specs.Threaded.{Suits, IsThreaded}
+use Rattle.model_accepted.specs.Threaded.{Suits}
 use Rattle.model_lawful.specs.Lawful.{IsSigned}
 use Rattle.model_lawful.proofs.LawfulLemmas.{lawful_worlds}
 use Rattle.model_slots.specs.Trees.{Tree}
 use Rattle.model_slots.specs.Environments.{formal_environment}
 use Rattle.model_slots.specs.Resolved.{resolved}
-use Rattle.model_window.specs.Stands.{Origins}
-use Rattle.model_fitting.specs.Steps.{AreOrigins}
 use Rattle.model_macro_bodies.specs.Bodies.{HasBody}
 use Rattle.model_expansion_forms.specs.Nodes.{IsWellCalled}
 use Rattle.model_books.specs.Opening.{primitive_numbers, primitives_named, opening_constants, opening_world}
 use Rattle.model_made.specs.Lawful.{IsAdmitted, IsLawfulWorld}
 use Rattle.model_made.proofs.FormLemmas.{formed_of}
 use Rattle.model_made.proofs.OpeningLemmas.{opening_is_lawful}
-use Rattle.model_origins.specs.Plain.{IsOfNoStobj, IsPlain, IsBare}
+use Rattle.model_origins.specs.Plain.{IsPlain, IsBare}
 use Rattle.model_origins.specs.Laws.{MacrosHaveBodies, PlainWorldsHaveOrigins}
 use Rattle.model_origins.proofs.PlainLemmas.{each_found}
 use Rattle.model_origins.proofs.KeepLemmas.{body_still}

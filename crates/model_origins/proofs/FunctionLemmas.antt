@@ -8,7 +8,7 @@ use Rattle.model_terms.specs.Cores as cores
 use Rattle.model_terms.specs.Cores.{Core, Place}
 use Rattle.model_terms.specs.Worlds.{World, Out, Ordinary, Stobj, Scope, Signature, Function, Descriptor, Definition, definition, Defined, Concrete, Named, Signed}
 use Rattle.model_terms.specs.Classes.{has, class_in, class_of, is_stobj_name}
-use Rattle.model_terms.specs.Outputs.{signature_in, signature_of}
+use Rattle.model_terms.specs.Outputs.{signature_in}
 use Rattle.model_terms.specs.Accessors.{accessor_in, runs, is_executable}
 use Rattle.model_terms.specs.Sites.{one_ordinary}
 use Rattle.model_terms.specs.Rounds.{formal_kind, formal_kinds, formal_entry, formal_scope}
@@ -25,7 +25,6 @@ use Rattle.model_expansion_forms.specs.Rows.{HasRowFunctions}
 use Rattle.model_expansion_forms.proofs.NodeLemmas.{each_wider}
 use Rattle.model_events.specs.Functions.{ordinary_signature, WrittenFunction, Candidate, before_rounds, signatures, signature_for, signed, defined, members, written_fault, drafts_of, with_names, all_expanded}
 use Rattle.model_made.specs.Lawful.{IsWellMade, IsLawfulWorld}
-use Rattle.model_made.specs.Lawful as lawful
 use Rattle.model_made.proofs.WorldLemmas.{EachDefinition, definition_old, definition_new, definition_is, settled}
 use Rattle.model_made.proofs.FormLemmas.{formed_of}
 use Rattle.model_made.proofs.GrowthLemmas.{Brings, functions_still, closed_grown, objects_grown, made_grown}

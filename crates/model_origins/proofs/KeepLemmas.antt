@@ -7,10 +7,10 @@ use Rattle.model_terms.specs.Cores.{Core}
 use Rattle.model_terms.specs.Worlds.{World, Definition, Function, GeneratedFunction, FunctionOfAbstract, MacroFormals, Out, definition, Primitive, Defined, Macro, Constant, Concrete, Generated, Abstract, OfAbstract, Named, Signed}
 use Rattle.model_terms.specs.Accessors.{is_internal}
 use Rattle.model_terms.specs.Sites.{one_ordinary}
-use Rattle.model_accepted.specs.Threaded.{Suits, IsAdmitted, IsMade, IsExport, IsRecognizer, IsThreaded}
+use Rattle.model_accepted.specs.Threaded.{IsAdmitted, IsMade, IsExport, IsRecognizer, IsThreaded}
 use Rattle.model_slots.specs.Trees.{Tree}
 use Rattle.model_slots.proofs.WorldLemmas.{keeps_numbers}
-use Rattle.model_window.specs.Stands.{Origins, IsEarlier}
+use Rattle.model_window.specs.Stands.{Origins}
 use Rattle.model_fitting.specs.Steps.{WasAccepted, AreOrigins}
 use Rattle.model_macro_bodies.specs.Bodies.{HasBody}
 use Rattle.model_origins.specs.Plain.{IsOfNoStobj, IsPlain}

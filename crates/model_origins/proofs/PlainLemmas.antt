@@ -9,7 +9,7 @@ use Rattle.model_lists.specs.Layouts.{Layout, NoField, field_layout}
 use Rattle.model_lists.specs.Layouts as layout
 use Rattle.model_terms.specs.Cores.{Core}
 use Rattle.model_terms.specs.Worlds.{World, Definition, Descriptor, Field, Function, GeneratedFunction, FunctionOfAbstract, Out, Signature, definition, definition_name, Primitive, Defined, Macro, Constant, Concrete, Generated, Abstract, OfAbstract, Named, Signed}
-use Rattle.model_terms.specs.Accessors.{HeldStobjs, One, Many, ChildAccessor, descriptor_in, descriptor_of, held_by, held_in, is_kept_back, is_internal}
+use Rattle.model_terms.specs.Accessors.{HeldStobjs, One, Many, ChildAccessor, descriptor_in, held_by, held_in, is_kept_back, is_internal}
 use Rattle.model_eval.specs.StobjLayouts.{layout_within, defined_layout, most_nested}
 use Rattle.model_eval.specs.Lending.{field_number}
 use Rattle.model_eval_alike.specs.FunctionLaws.{SuitsRole}

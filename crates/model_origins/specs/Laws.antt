@@ -1,5 +1,5 @@
 -- What is said of the worlds in which functions were checked as a world grows, as laws.
-use Rattle.std.specs.Prelude.{◌≡◌, ℕ, List, [], ◌++◌, map, length, None, Some}
+use Rattle.std.specs.Prelude.{◌≡◌, List, [], ◌++◌, length, None, Some}
 use Rattle.std.specs.List.{AllByRecursion}
 use Rattle.model_terms.specs.Cores.{Core}
 use Rattle.model_terms.specs.Worlds.{World, MacroFormals}
