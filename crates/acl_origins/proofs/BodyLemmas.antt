@@ -8,10 +8,12 @@ use Rattle.model_terms.specs.Faults.{formal_names, macro_fault}
 use Rattle.model_slots.specs.Trees.{Tree}
 use Rattle.model_macro_bodies.specs.Bodies.{HasBody}
 use Rattle.model_expansion_forms.specs.Nodes.{IsWellCalled}
+use Rattle.model_events.specs.Functions.{signatures}
 use Rattle.model_made.specs.Lawful.{IsLawfulWorld}
 use Rattle.model_origins.specs.Plain.{IsOfNoStobj}
 use Rattle.model_origins.specs.Before.{HadBody}
 use Rattle.model_origins.proofs.KeepLemmas.{plain_definitions_keep_origins}
+use Rattle.model_origins.proofs.FunctionLemmas.{all_defined}
 use Rattle.model_origins.proofs.BeforeLemmas.{worlds_before_stay}
 use Rattle.acl_terms.specs.Definitions.{seen_definitions, seen_formals}
 use Rattle.acl_terms.specs.Forms.{seen_core}
@@ -174,6 +176,7 @@ bodies_are_kept = record {
   none_within = none_within;
   none = none;
   functions = λ h old new ts cs e. function_bodies e.definitions e.terms e.have;
+  no_stobjs = λ h old new ts cs e. subst (λ (u : World). AllByRecursion IsOfNoStobj u) (sym e.seen) (all_defined (signatures (seen_world h old) cs) cs);
   macro = macro_enters;
   have = λ h w ts ds had. record { each = λ m c. (had.each m c).has };
 }

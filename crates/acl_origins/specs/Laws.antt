@@ -67,6 +67,7 @@ pub record BodiesAreKept : Type 0 where
   pub none_within : (ts : List Term) (ds : List Definition) → AllByRecursion HasNoBody ds → MacrosWithin ts ds
   pub none : (h : Objects) (w : World) (ts : List Term) (ds : List Definition) → AllByRecursion HasNoBody ds → HadBodies h w ts ds
   pub functions : (h : Objects) (old new : Content) (ts : List Term) (cs : List Candidate) (e : Entered h old new ts cs) → AllByRecursion HasNoBody e.definitions
+  pub no_stobjs : (h : Objects) (old new : Content) (ts : List Term) (cs : List Candidate) (e : Entered h old new ts cs) → AllByRecursion IsOfNoStobj (seen_definitions h e.definitions)
   -- a macro whose term was made
   pub macro : (h : Objects) (old new : Content) (m : Macro) (after : List Term) → new.definitions ≡ old.definitions ++ definition.Macro m ∷ [] → IsLawfulWorld (seen_world h old)
       → IsWellCalled (seen_world h old) (seen_core h m.body) → macro_fault (seen_world h old) (seen_formals h m.formals) (seen_core h m.body) ≡ None
