@@ -1,5 +1,5 @@
 -- What was said before the heap grew is said behind it: of drafts, of worlds, and of tables of terms.
-use Rattle.std.specs.Prelude.{◌≡◌, ◌≢◌, ℕ, ◌<◌, ◌≤◌, List, [], ◌∷◌, ◌++◌, length, true, None, refl}
+use Rattle.std.specs.Prelude.{◌≡◌, ◌≢◌, ℕ, ◌≤◌, List, [], ◌∷◌, ◌++◌, length, true, None, refl}
 use Rattle.std.proofs.Common.{sym, ap, ◌∙◌, subst, arith}
 use Rattle.std.proofs.lemmas.List.{map-append}
 use Rattle.model_objects.specs.Object.{Object}
@@ -7,7 +7,6 @@ use Rattle.model_objects.specs.Named.{Knows}
 use Rattle.model_symbols.specs.Symbols.{Table}
 use Rattle.model_terms.specs.Cores as cores
 use Rattle.model_terms.specs.Faults.{macro_fault}
-use Rattle.model_terms.specs.Worlds as worlds
 use Rattle.model_terms.specs.Worlds.{World}
 use Rattle.model_expansion.specs.Expansion.{Setting, Progress, Expanded, Makes, Fails, expanded}
 use Rattle.model_expansion_forms.specs.Rows.{HasRowFunctions}
@@ -25,12 +24,11 @@ use Rattle.acl_terms.specs.Forms.{seen_core}
 use Rattle.acl_terms.specs.Growth.{seen_formals-later, seen_definitions-later}
 use Rattle.acl_terms.specs.declared.definition.Definition.{Definition}
 use Rattle.acl_terms.specs.declared.definition.Definition.TheVariants as definition
-use Rattle.acl_terms.specs.declared.definition.Macro.{Macro}
 use Rattle.acl_terms.specs.declared.fault.ExpandFault.TheVariants as fault
 use Rattle.acl_terms.specs.declared.fault.ThreadFault.{ThreadFault}
 use Rattle.acl_terms.specs.declared.form.Core.{Core}
 use Rattle.acl_terms.specs.Signatures.{seen_name}
-use Rattle.acl_worlds.specs.Contents.{Content, seen_world, with_definition, WorldLies}
+use Rattle.acl_worlds.specs.Contents.{Content, seen_world, WorldLies}
 use Rattle.acl_code.specs.Constants.{ConstantsAreKnown}
 use Rattle.acl_code.specs.Tables.{TermsLie}
 use Rattle.acl_code.specs.declared.term.Term.{Term}

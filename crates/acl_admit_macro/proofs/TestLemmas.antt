@@ -1,5 +1,5 @@
 -- A macro of one formal, as the tests enter it.
-use Rattle.std.specs.Prelude.{◌≡◌, ℕ, List, [], ◌∷◌, true, None, refl}
+use Rattle.std.specs.Prelude.{◌≡◌, ℕ, [], ◌∷◌, true, None, refl}
 use Rattle.std.proofs.Common.{ap, ◌∙◌, sym, arith}
 use Rattle.acl_base.specs.declared.SymId.{SymId}
 use Rattle.acl_heap.specs.Objects.{Objects}
@@ -28,6 +28,6 @@ one_reach m x e f g =
     let formals : formals_reach m.formals ≡ 0 = rw (e, f) refl in
     omega (arith, body, formals)
 
-pub one_stands : (h : Objects) (m : ExpandedMacro) (x : SymId) → m.body ≡ variants.Var x → (w : World) → functions_stand w (seen_core h m.body) ≡ true
+pub one_stands : (h : Objects) (x : SymId) (w : World) → functions_stand w (seen_core h (variants.Var x)) ≡ true
 unfolding functions_stand
-one_stands h m x e w = ap (λ f. functions_stand w (seen_core h f)) e ∙ ap (functions_stand w) (seen_var h x)
+one_stands h x w = ap (functions_stand w) (seen_var h x)

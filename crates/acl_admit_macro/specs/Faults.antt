@@ -1,5 +1,5 @@
 -- Why the definition of a macro is refused.
-use Rattle.std.specs.Prelude.{◌≡◌, ◌≢◌, ℕ, Bool, true, false, if◌then◌else◌}
+use Rattle.std.specs.Prelude.{◌≢◌, Bool, true, false, if◌then◌else◌}
 use Rattle.model_expansion.specs.Words.{defmacro_word}
 use Rattle.model_expansion.specs.Faults as faults
 use Rattle.model_expansion.specs.Faults.{Refusal}

@@ -1,5 +1,5 @@
 -- Macros that are small enough to be checked and to be made into terms.
-use Rattle.std.specs.Prelude.{ℕ, ◌^◌, length, Bool, ◌&&◌, nat_le}
+use Rattle.std.specs.Prelude.{◌^◌, length, Bool, ◌&&◌, nat_le}
 use Rattle.model_terms.specs.Cores.{Core}
 use Rattle.model_terms.specs.Worlds.{MacroFormals}
 use Rattle.model_terms.specs.Faults.{formal_names}

@@ -17,7 +17,7 @@ use std::alloc::{AllocError, Global};
 use std::test::*;
 
 /// A macro of one formal with this variable as its body.
-#[tactic(auto, using(crate::proofs::TestLemmas::one_reach, crate::proofs::TestLemmas::one_stands))]
+#[tactic(auto, using(crate::proofs::TestLemmas::one_reach))]
 fn one_macro(alloc: Global, _heap: &Heap, body: u32) -> Result<ExpandedMacro, AllocError>
     ensures name { IfOk result (λ m. m.name.0 ≡ 200) }
     ensures reach { IfOk result (λ m. expanded_reach m ≡ 0) }

@@ -1,5 +1,5 @@
 -- A macro that is read, and its body expanded.
-use Rattle.std.proofs.Common.{◌≤◌, length, arith}
+use Rattle.std.proofs.Common.{length}
 use Rattle.acl_heap.specs.Objects.{object_of}
 use Rattle.model_symbols.proofs.TableLemmas.{Extends-self}
 use Rattle.acl_forms.specs.Growth.{Grown-both, Grown-then}
