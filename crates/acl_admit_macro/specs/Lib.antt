@@ -1,0 +1,4 @@
+pub mod Ready
+pub mod Admitted
+pub mod Faults
+pub mod Entered
