@@ -26,7 +26,7 @@ crates() {
 
 sources() {
     crates | while read -r name; do
-        find "crates/$name/src" "crates/$name/specs" "crates/$name/proofs" -type f 2>/dev/null
+        find "crates/$name/src" "crates/$name/specs" "crates/$name/proofs" -type f 2>/dev/null || true
     done | LC_ALL=C sort | xargs -d '\n' sha256sum | sha256sum | cut -d' ' -f1
 }
 

@@ -1,8 +1,9 @@
 //! The checks: Ok exactly where no rule fails, else the first fault.
 
-ghost use Rattle.std.specs.Prelude.{◌≡◌, ◌≤◌, ◌^◌, [], length, None, IfErr, OnOk, option_map};
+ghost use Rattle.std.specs.Prelude.{◌≡◌, ◌≤◌, ◌^◌, [], length, None, IfOk, IfErr, OnOk, option_map};
 ghost use Rattle.std.specs.List.{All};
 ghost use Rattle.model_terms.specs.Faults.{first_fault, expression_fault, constant_fault, clique_fault, macro_fault};
+ghost use Rattle.model_terms.specs.Outputs.{outs};
 ghost use Rattle.acl_terms.specs.Definitions.{seen_formals};
 ghost use Rattle.acl_terms.specs.Forms.{seen_core};
 ghost use Rattle.acl_terms.specs.Signatures.{seen_outs, seen_scope};
@@ -20,6 +21,7 @@ use acl_nest::outs;
 use acl_terms::{Core, MacroFormals, Mode, Out, Scope, ThreadFault};
 use acl_thread::{Fault, named};
 use acl_worlds::World;
+use sqlite_items::Items;
 use std::alloc::Global;
 
 /// The answer by the first fault.
@@ -57,7 +59,7 @@ pub fn check_form(
     }
 }
 
-/// Checks a form of which its own outputs are expected.
+/// Checks a form of which its own outputs are expected, and answers these.
 #[tactic(auto, using(acl_thread::proofs::SizeLemmas::fits_deep))]
 pub fn check_expression(
     alloc: Global,
@@ -65,21 +67,25 @@ pub fn check_expression(
     heap: &Heap,
     scope: &Scope,
     core: &Core,
-) -> Result<(), ThreadFault>
+) -> Result<Items<Out>, ThreadFault>
     requires { Fits heap.now core.now }
     ensures ok { OnOk result (expression_fault (seen_world heap.now world.now) (seen_scope scope.now) (seen_core heap.now core.now) ≡ None) }
+    ensures outputs { IfOk result (λ os. seen_outs os ≡ outs (seen_world heap.now world.now) (seen_scope scope.now) (seen_core heap.now core.now)) }
     ensures err { IfErr result (λ e. Says (expression_fault (seen_world heap.now world.now) (seen_scope scope.now) (seen_core heap.now core.now)) e) }
 {
     match outs(alloc, world, heap, scope, core) {
-        Ok(own) => check_form(
-            alloc,
-            world,
-            heap,
-            Mode::Executable,
-            scope,
-            core,
-            own.as_slice(),
-        ),
+        Ok(own) => {
+            check_form(
+                alloc,
+                world,
+                heap,
+                Mode::Executable,
+                scope,
+                core,
+                own.as_slice(),
+            )?;
+            Ok(own)
+        }
         Err(_) => Err(ThreadFault::Memory),
     }
 }

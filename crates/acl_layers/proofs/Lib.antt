@@ -8,3 +8,4 @@ pub mod ClauseLemmas
 pub mod ScopingLemmas
 pub mod LawLemmas
 pub mod TypedLemmas
+pub mod DistinctLemmas

@@ -7,6 +7,7 @@ mod binding_parts;
 mod chained;
 mod clauses;
 mod counted;
+mod distinct;
 mod layer;
 mod lists;
 mod made;

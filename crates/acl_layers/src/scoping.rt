@@ -11,8 +11,9 @@ ghost use Rattle.acl_layers.specs.Layers.{StandsMade};
 ghost use Rattle.acl_layers.specs.Scoping.{SeenMvLet};
 
 use crate::binding_parts::{
-    are_different, binding, bindings, body_of, bound_forms, bound_names, has_head, variables,
+    binding, bindings, body_of, bound_forms, bound_names, has_head, variables,
 };
+use crate::distinct::are_distinct;
 use crate::layer::{Found, Kind, Left, Made, Part};
 use crate::lists::{elements, four, is_end, take, two};
 use crate::making::{let_one, push_form};
@@ -45,7 +46,7 @@ fn let_of(
     ensures { IfOk result (λ m. StandsMade heap.now m (let_of _syms.now.symbols (seen_bindings heap.now bindings.now) (object_of heap.now body))) }
 {
     let names = bound_names(alloc, heap, bindings)?;
-    if !are_different(names.as_slice()) {
+    if !are_distinct(alloc, names.as_slice())? {
         return Ok(None);
     }
     let mut parts = bound_forms(alloc, heap, bindings)?;
@@ -153,7 +154,7 @@ fn mv_names(
             if names.len() < 2 {
                 return Ok(None);
             }
-            if are_different(names.as_slice()) {
+            if are_distinct(alloc, names.as_slice())? {
                 Ok(Some(names))
             } else {
                 Ok(None)

@@ -192,10 +192,8 @@ fn outputs_in(
     }
 }
 
-/// The outputs by text of a form, where the signatures in `known` count beside the world's. None exactly where they are
-/// not known, since a function that they rest on has no signature yet. The recursion is at most 2,048 deep; a form costs
-/// its way down to the place that its outputs come from, and `IF` both branches at most.
-pub fn outputs(
+/// The outputs of a form in a copy of a scope.
+fn outputs_in_copy(
     alloc: Global,
     world: &World,
     heap: &Heap,
@@ -209,4 +207,45 @@ pub fn outputs(
     let mut inner = Scope::from_entries(alloc, scope.entries())?;
     let outs = outputs_in(alloc, world, heap, known, &mut inner, core)?;
     Ok(outs)
+}
+
+/// The outputs by text of a form, where the signatures in `known` count beside the world's. None exactly where they are
+/// not known, since a function that they rest on has no signature yet. The recursion is at most 2,048 deep; a form costs
+/// its way down to the place that its outputs come from, and `IF` both branches at most. A form that may bind names on
+/// that way copies the scope once; a variable, a constant, an `MV` and a call copy none of it.
+pub fn outputs(
+    alloc: Global,
+    world: &World,
+    heap: &Heap,
+    known: &[(SymId, Signature)],
+    scope: &Scope,
+    core: &Core,
+) -> Result<Option<Items<Out>>, AllocError>
+    requires { depth_of (seen_core heap.now core.now) ≤ 2048 }
+    ensures { IfOk result (λ r. option_map seen_outs r ≡ outputs (seen_world heap.now world.now) (seen_known known.now) (seen_scope scope.now) (seen_core heap.now core.now)) }
+{
+    match core {
+        Core::Var(x) => {
+            let outs = single(alloc, scope.kind_of(*x))?;
+            Ok(Some(outs))
+        }
+        Core::Const(_) => {
+            let outs = single(alloc, Out::Ordinary)?;
+            Ok(Some(outs))
+        }
+        Core::If(_, _, _) => outputs_in_copy(alloc, world, heap, known, scope, core),
+        Core::Let(_, _) => outputs_in_copy(alloc, world, heap, known, scope, core),
+        Core::Mv(parts) => {
+            let outs = part_kinds(alloc, scope, parts.as_slice(), heap)?;
+            Ok(Some(outs))
+        }
+        Core::MvLet(_, _, _) => outputs_in_copy(alloc, world, heap, known, scope, core),
+        Core::StobjLet { .. } => outputs_in_copy(alloc, world, heap, known, scope, core),
+        Core::WithLocal { .. } => outputs_in_copy(alloc, world, heap, known, scope, core),
+        Core::MustBeEqual(_, _) => outputs_in_copy(alloc, world, heap, known, scope, core),
+        Core::Call(f, actuals) => {
+            let outs = called_outs(alloc, world, heap, known, *f, actuals.as_slice())?;
+            Ok(outs)
+        }
+    }
 }

@@ -92,7 +92,7 @@ fn part_kind(scope: &Scope, part: &Core, heap: &Heap) -> Out
     }
 }
 
-/// The kinds of the parts of an `MV`. Each variable costs a walk over the scope.
+/// The kinds of the parts of an `MV`. Each variable costs one look-up.
 #[tactic(auto, using(crate::proofs::PartLemmas::kinds_step, crate::proofs::PartLemmas::kinds_end, crate::proofs::ListLemmas::outs_push))]
 pub fn part_kinds(
     alloc: Global,

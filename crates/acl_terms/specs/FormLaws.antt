@@ -1,5 +1,5 @@
 -- What each variant of a form stands for.
-use Rattle.std.specs.Prelude.{◌≡◌, ℕ, List, [], ◌∷◌, map, refl}
+use Rattle.std.specs.Prelude.{◌≡◌, List, [], ◌∷◌, map, refl}
 use Rattle.std.proofs.Common.{sym, ap, ◌∙◌}
 use Rattle.acl_base.specs.declared.SymId.{SymId}
 use Rattle.acl_base.specs.declared.Word.{Word}
@@ -10,7 +10,7 @@ use Rattle.acl_terms.specs.declared.form.Core.TheOpen as layer
 use Rattle.acl_terms.specs.declared.form.Core.TheShapes as shapes
 use Rattle.acl_terms.specs.declared.form.Core.TheViews as views
 use Rattle.acl_terms.specs.declared.form.Core.TheVariants as variants
-use Rattle.acl_terms.specs.declared.form.Core.TheFolds.{fold-Core, fold-roll-Core}
+use Rattle.acl_terms.specs.declared.form.Core.TheFolds.{fold-roll-Core}
 use Rattle.acl_terms.specs.Forms.{numbers, bound_names, bound_parts, seen_core, seen_cores, seen_bound, layer_core}
 
 module _ (h : Objects) where

@@ -1,8 +1,8 @@
 -- What a form stands for stays when the heap grows.
-use Rattle.std.specs.Prelude.{◌≡◌, ℕ, ◌≤◌, ◌<◌, List, [], ◌∷◌, length, map, max, refl, Option, Some, None}
+use Rattle.std.specs.Prelude.{◌≡◌, ℕ, ◌≤◌, List, [], ◌∷◌, length, map, refl, Option, Some, None}
 use Rattle.std.proofs.Common.{sym, ap, ◌∙◌, subst, arith}
 use Rattle.acl_base.specs.declared.SymId.{SymId}
-use Rattle.acl_heap.specs.Objects.{Objects, object_of, reach, Extends}
+use Rattle.acl_heap.specs.Objects.{Objects, reach, Extends}
 use Rattle.model_terms.specs.Cores as cores
 use Rattle.model_terms.specs.Worlds as worlds
 use Rattle.acl_terms.specs.declared.stobj.Shape.{Shape}
@@ -16,8 +16,8 @@ use Rattle.acl_terms.specs.declared.definition.Definition.TheVariants as definit
 use Rattle.acl_terms.specs.declared.form.Core.{Core}
 use Rattle.acl_terms.specs.declared.form.Core.TheOpen as layer
 use Rattle.acl_terms.specs.declared.form.Core.TheShapes as shapes
-use Rattle.acl_terms.specs.declared.form.Core.TheFolds.{fold-Core, fold-roll-Core, ind-Core, map-Core}
-use Rattle.acl_terms.specs.Forms.{numbers, bound_names, bound_parts, seen_core, layer_core, core_reach, layer_reach, most, CoreLies}
+use Rattle.acl_terms.specs.declared.form.Core.TheFolds.{fold-roll-Core, ind-Core, map-Core}
+use Rattle.acl_terms.specs.Forms.{bound_parts, seen_core, layer_core, core_reach, layer_reach, most}
 use Rattle.acl_terms.specs.Definitions.{seen_shape, shape_reach, seen_field, seen_descriptor, descriptor_reach, seen_optional, seen_formals, formals_reach, seen_definition, DefinitionLies, seen_definitions, DefinitionsLie, name_in, seen_optionals, optionals_reach}
 
 abbrev Keeps : Objects → Objects → Core → Type 0

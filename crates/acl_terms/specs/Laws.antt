@@ -1,5 +1,5 @@
 -- What is said of forms and definitions, as laws.
-use Rattle.std.specs.Prelude.{◌≡◌, ℕ, List}
+use Rattle.std.specs.Prelude.{◌≡◌, List}
 use Rattle.acl_base.specs.declared.SymId.{SymId}
 use Rattle.acl_base.specs.declared.Word.{Word}
 use Rattle.acl_heap.specs.Objects.{Objects, object_of, Extends}

@@ -23,6 +23,9 @@ seen_entry e = record { name = e.name.0; kind = seen_out e.kind }
 abbrev pub seen_scope : List Entry → worlds.Scope
 seen_scope es = map seen_entry es
 
+abbrev pub entry_names : List Entry → List ℕ
+entry_names es = map (λ (e : Entry). e.name.0) es
+
 -- the number of a name, where there is one
 abbrev pub seen_name : Option SymId → Option ℕ
 seen_name name = option_map (λ (s : SymId). s.0) name

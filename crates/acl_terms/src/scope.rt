@@ -1,39 +1,33 @@
 //! Names in scope.
 
-ghost use Rattle.std.specs.Prelude.{◌≡◌, [], ◌∷◌, ◌++◌, ◌≤◌, length, take, Some, None, nat_eq, option_map, IfOk, OnOk, OnErr, if◌then◌else◌};
-ghost use Rattle.std.specs.Option.{option_or};
+ghost use Rattle.std.specs.Prelude.{◌≡◌, [], ◌∷◌, ◌++◌, length, take, option_map, IfOk, OnOk, OnErr};
 ghost use Rattle.model_terms.specs.Scopes.{kind_in, kind_of};
 ghost use Rattle.acl_terms.specs.Signatures.{seen_out, seen_scope};
 
 use crate::signature::{Entry, Out};
 use acl_base::SymId;
+use acl_names::Names;
 use std::alloc::{AllocError, Global};
 use std::marker::Model;
 
 /// Names with their kinds, the outermost first. Of a name that stands twice the last counts.
-#[derive(Debug, Drop)]
+#[derive(Drop)]
 pub struct Scope {
     entries: Vec<Entry>,
+    /// The names of the entries, in their order.
+    names: Names,
 }
 
 impl Model for Scope {
-    ghost use Rattle.std.specs.Prelude.{List};
+    ghost use Rattle.std.specs.Prelude.{◌≡◌, List};
     ghost use Rattle.acl_terms.specs.declared.signature.Entry.{Entry};
+    ghost use Rattle.acl_terms.specs.Signatures.{entry_names};
 
     ghost Value = { List Entry };
 
     ghost view = { λ s. s.entries.items };
-}
 
-/// The kind that an entry gives to a name, or else the one that was found before.
-fn newer(name: SymId, entry: Entry, found: Option<Out>) -> Option<Out>
-    ensures { option_map seen_out result ≡ option_or (if nat_eq name.0 entry.name.0 then Some (seen_out entry.kind) else None) (option_map seen_out found) }
-{
-    if name.0 == entry.name.0 {
-        Some(entry.kind)
-    } else {
-        found
-    }
+    ghost invariant = { λ s. s.names ≡ entry_names s.entries.items };
 }
 
 impl Scope {
@@ -43,15 +37,20 @@ impl Scope {
     {
         Scope {
             entries: Vec::new(alloc),
+            names: Names::new(alloc),
         }
     }
 
-    /// The scope of these names.
+    /// The scope of these names. The cost is linear in them.
+    #[tactic(auto, using(crate::proofs::ScopeLemmas::copy_step, crate::proofs::ScopeLemmas::copy_end))]
     pub fn from_entries(alloc: Global, entries: &[Entry]) -> Result<Scope, AllocError>
         ensures { IfOk result (λ s. s ≡ entries.now) }
     {
-        let entries = Vec::from_slice(alloc, entries)?;
-        Ok(Scope { entries })
+        let mut scope = Scope::new(alloc);
+        for entry in entries {
+            scope.push(*entry)?;
+        }
+        Ok(scope)
     }
 
     /// The names, the outermost first.
@@ -69,31 +68,40 @@ impl Scope {
     }
 
     /// Puts a name innermost. A refused name leaves the scope as it was.
+    #[tactic(auto, using(crate::proofs::ScopeLemmas::names_push, crate::proofs::ScopeLemmas::take_push))]
     pub fn push(&mut self, entry: Entry) -> Result<(), AllocError>
         ensures ok { OnOk result (self.new ≡ self.old ++ entry ∷ []) }
         ensures err { OnErr result (self.new ≡ self.old) }
     {
+        let at = self.entries.len();
         self.entries.push(entry)?;
-        Ok(())
+        match self.names.push(entry.name.0) {
+            Ok(()) => Ok(()),
+            Err(e) => {
+                self.entries.truncate(at);
+                Err(e)
+            }
+        }
     }
 
-    /// Leaves the outermost names alone, this many. It takes no memory.
+    /// Leaves the outermost names alone, this many. It takes no memory, and time for the names that go.
+    #[tactic(auto, using(crate::proofs::ScopeLemmas::names_take))]
     pub fn cut(&mut self, to: usize)
         ensures { self.new ≡ take to self.old }
     {
+        self.names.cut(to);
         self.entries.truncate(to);
     }
 
-    /// The kind of a name that stands in scope. The cost is linear in the scope.
-    #[tactic(auto, using(crate::proofs::ScopeLemmas::found_step, crate::proofs::ScopeLemmas::found_end, crate::proofs::ScopeLemmas::found_start))]
+    /// The kind of a name that stands in scope, by one look-up.
+    #[tactic(auto, using(crate::proofs::ScopeLemmas::found_there, crate::proofs::ScopeLemmas::found_nowhere, crate::proofs::ScopeLemmas::found_within))]
     pub fn kind_in(&self, name: SymId) -> Option<Out>
         ensures { option_map seen_out result ≡ kind_in (seen_scope self.now) name.0 }
     {
-        let mut found = None;
-        for entry in self.entries.iter() {
-            found = newer(name, *entry, found);
+        match self.names.find(name.0) {
+            Some(at) => Some(self.entries[at].kind),
+            None => None,
         }
-        found
     }
 
     /// The kind of a name, which is ordinary out of scope.

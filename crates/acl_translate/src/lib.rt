@@ -9,4 +9,4 @@ mod translating;
 
 pub use function_terms::FunctionTerms;
 pub use functions::{translate_clique, translate_macro};
-pub use translating::{translate, translate_constant, translate_expression};
+pub use translating::{Expression, translate, translate_constant, translate_expression};

@@ -2,6 +2,7 @@
 
 ghost use Rattle.std.specs.Prelude.{◌≡◌, ◌<◌, ℕ, length, [], true, Some, None, IfOk, IfErr, OnOk, OnErr};
 ghost use Rattle.model_terms.specs.Faults.{first_fault, expression_fault, constant_fault};
+ghost use Rattle.model_terms.specs.Outputs.{outs};
 ghost use Rattle.acl_terms.specs.Forms.{numbers, seen_core};
 ghost use Rattle.acl_terms.specs.Signatures.{seen_outs, seen_scope};
 ghost use Rattle.acl_worlds.specs.Contents.{seen_world};
@@ -20,7 +21,16 @@ use acl_code::Terms;
 use acl_heap::Heap;
 use acl_terms::{Core, Mode, Out, Scope, ThreadFault};
 use acl_worlds::World;
+use sqlite_items::Items;
 use std::alloc::Global;
+
+/// A form that was accepted, as the machine runs it.
+#[derive(Drop)]
+pub struct Expression {
+    pub term: TermId,
+    /// What it gives.
+    pub outputs: Items<Out>,
+}
 
 /// The term of a form under these names, where no rule fails at it in this scope, of which these outputs are expected; else
 /// its first fault. At a fault and for want of memory the table is as it was.
@@ -57,7 +67,7 @@ pub fn translate(
     }
 }
 
-/// The same of a form of which its own outputs are expected.
+/// The same of a form of which its own outputs are expected; they are answered with its term.
 #[tactic(auto, using(crate::proofs::FunctionLemmas::expression_there))]
 pub fn translate_expression(
     alloc: Global,
@@ -67,13 +77,14 @@ pub fn translate_expression(
     scope: &Scope,
     names: &[SymId],
     core: &Core,
-) -> Result<TermId, ThreadFault>
+) -> Result<Expression, ThreadFault>
     requires words { TermsLie heap.now terms.old }
     requires fits { code.Fits heap.now (length names.now) core.now }
     requires wide { thread.Fits heap.now core.now }
     requires stand { functions_stand (seen_world heap.now world.now) (seen_core heap.now core.now) ≡ true }
     ensures accepted { OnOk result (expression_fault (seen_world heap.now world.now) (seen_scope scope.now) (seen_core heap.now core.now) ≡ None) }
-    ensures built { IfOk result (λ r. IsBuilt heap.now terms.new (Some r) (formal_tree (seen_world heap.now world.now) (numbers names.now) (seen_core heap.now core.now))) }
+    ensures built { IfOk result (λ r. IsBuilt heap.now terms.new (Some r.term) (formal_tree (seen_world heap.now world.now) (numbers names.now) (seen_core heap.now core.now))) }
+    ensures outputs { IfOk result (λ r. seen_outs r.outputs ≡ outs (seen_world heap.now world.now) (seen_scope scope.now) (seen_core heap.now core.now)) }
     ensures err { IfErr result (λ e. Says (expression_fault (seen_world heap.now world.now) (seen_scope scope.now) (seen_core heap.now core.now)) e) }
     ensures unchanged { OnErr result (terms.new ≡ terms.old) }
     ensures grows { Grown terms.old terms.new }
@@ -81,8 +92,8 @@ pub fn translate_expression(
     ensures known { (n : ℕ) → 1 < n → FormIsKnown n (seen_core heap.now core.now) → ConstantsAreKnown n heap.now terms.old → ConstantsAreKnown n heap.now terms.new }
 {
     match check_expression(alloc, world, heap, scope, core) {
-        Ok(()) => match build_tree(alloc, terms, world, heap, names, core) {
-            Ok(term) => Ok(term),
+        Ok(outputs) => match build_tree(alloc, terms, world, heap, names, core) {
+            Ok(term) => Ok(Expression { term, outputs }),
             Err(_) => Err(ThreadFault::Memory),
         },
         Err(fault) => Err(fault),

@@ -1,0 +1,5 @@
+pub mod BeginLemmas
+pub mod EnterLemmas
+pub mod FitLemmas
+pub mod TypeLemmas
+pub mod WorldLemmas

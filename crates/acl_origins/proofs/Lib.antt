@@ -1,0 +1,4 @@
+pub mod BodyLemmas
+pub mod EnteredLemmas
+pub mod PlainLemmas
+pub mod RunLemmas

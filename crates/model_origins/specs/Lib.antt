@@ -1,0 +1,5 @@
+pub mod Admitted
+pub mod Before
+pub mod Going
+pub mod Laws
+pub mod Plain
