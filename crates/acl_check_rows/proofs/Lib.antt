@@ -1,1 +1,2 @@
+pub mod DefinitionLemmas
 pub mod SmallLemmas

@@ -52,8 +52,27 @@ macro_rules! refused {
     };
 }
 
-static ROWS: [Row; 24] = [
+static ROWS: [Row; 28] = [
     accepted!(&[Step::Var(ST)], &[S]),
+    accepted!(&[Step::Number(5)], &[O]),
+    accepted!(&[Step::Var(X)], &[O]),
+    accepted!(
+        &[
+            Step::Var(X),
+            Step::Var(ST),
+            Step::Number(1),
+            Step::Var(ST),
+            Step::CallTwo(UPDATE),
+            Step::If
+        ],
+        &[S]
+    ),
+    Row {
+        form: &[Step::Var(X)],
+        mode: Mode::Macro,
+        outs: &[O],
+        fault: None,
+    },
     refused!(&[Step::Var(ST)], RUN, &[O], Rule::S3, &[]),
     refused!(&[Step::Number(5)], RUN, &[S], Rule::S8, &[]),
     refused!(&[Step::Var(V)], RUN, &[O], Rule::S11, &[]),
@@ -216,7 +235,7 @@ static ROWS: [Row; 24] = [
 ];
 
 /// The scope of st, st2, other, par and x.
-fn scope(alloc: Global) -> Result<Scope, AllocError> {
+pub fn scope(alloc: Global) -> Result<Scope, AllocError> {
     let mut scope = Scope::new(alloc);
     for x in [ST, ST2, OTHER, PAR] {
         scope.push(Entry {
@@ -244,7 +263,7 @@ fn answer(alloc: Global, world: &World, row: &Row) -> Result<(), ThreadFault> {
 }
 
 /// The answer is the row's.
-fn agrees(answer: Result<(), ThreadFault>, fault: Option<(Rule, &[u32])>) -> bool {
+pub fn agrees(answer: Result<(), ThreadFault>, fault: Option<(Rule, &[u32])>) -> bool {
     match answer {
         Ok(()) => fault.is_none(),
         Err(ThreadFault::Memory) => false,
