@@ -1,0 +1,4 @@
+pub mod NameLemmas
+pub mod DraftLemmas
+pub mod CandidateLemmas
+pub mod ReadLemmas
